@@ -18,11 +18,19 @@ final class Answer {
     /** What the line tells, empty for no line. */
     private final String text;
 
+    /** The same in more words, for a Java program. */
+    private final String explanation;
+
     private final Fault fault;
     private final int trap;
     private final Throwable cause;
 
     private Answer(Ending ending, int status, String text, Fault fault, int trap, Throwable cause) {
+        this(ending, status, text, text, fault, trap, cause);
+    }
+
+    private Answer(Ending ending, int status, String text, String explanation, Fault fault, int trap, Throwable cause) {
+        this.explanation = explanation;
         this.ending = ending;
         this.status = status;
         this.text = text;
@@ -32,7 +40,11 @@ final class Answer {
     }
 
     private static Answer withoutRun(int status, String text) {
-        return new Answer(null, status, text, null, 0, null);
+        return withoutRun(status, text, text);
+    }
+
+    private static Answer withoutRun(int status, String text, String explanation) {
+        return new Answer(null, status, text, explanation, null, 0, null);
     }
 
     private static Answer failed(Ending ending, int status, String text, Throwable cause) {
@@ -75,6 +87,10 @@ final class Answer {
         return failed(Ending.CALLBACK_FAILED, 85, "callback " + cause, cause);
     }
 
+    static Answer noFolder(String folder, Throwable cause) {
+        return new Answer(Ending.FOLDER_FAILED, 76, "shelf fault", "its folder " + folder + " cannot be opened: " + cause, null, 0, cause);
+    }
+
     static Answer usage() {
         return withoutRun(64, "usage 2");
     }
@@ -84,11 +100,11 @@ final class Answer {
     }
 
     static Answer argumentsTooLong(long bytes) {
-        return withoutRun(68, "arguments " + bytes);
+        return withoutRun(68, "arguments " + bytes, "its arguments need " + bytes + " bytes, and there are at most " + Arguments.LONGEST_BLOCK);
     }
 
-    static Answer filesTooLarge(long blocks) {
-        return withoutRun(69, "files " + blocks);
+    static Answer filesTooLarge(long blocks, int most) {
+        return withoutRun(69, "files " + blocks, "its files need " + blocks + " blocks of 4096 bytes or more, and there are " + most);
     }
 
     private static Answer classRefused(String reason) {
@@ -115,6 +131,11 @@ final class Answer {
         return withoutRun(77, "no memory");
     }
 
+    /** The same answer, whose fault is in one of these functions. */
+    Answer in(Functions functions) {
+        return fault == null ? this : faulted(fault.in(functions));
+    }
+
     /** How the run ended, or null where none was made. */
     Ending ending() {
         return ending;
@@ -127,6 +148,11 @@ final class Answer {
     /** What the line tells, empty for no line. */
     String text() {
         return text;
+    }
+
+    /** Why no run was made, in words that say what was too much, and how much there may be. */
+    String explanation() {
+        return explanation;
     }
 
     /** The line with its end, empty for no line. */

@@ -302,7 +302,7 @@ public final class Call {
 
     private Answer play(Session session) {
         try {
-            return program.play(session.system());
+            return program.play(session.system()).in(program.functions());
         } catch (OutOfMemoryError end) {
             return Answer.trapped(Traps.NO_MEMORY, end);
         }
@@ -334,7 +334,7 @@ public final class Call {
         try {
             return newSession(hostCalls);
         } catch (Stopped stopped) {
-            throw new IllegalArgumentException(name + ": " + stopped.answer().text(), stopped.answer().cause());
+            throw new IllegalArgumentException(name + ": " + stopped.answer().explanation(), stopped.answer().cause());
         }
     }
 

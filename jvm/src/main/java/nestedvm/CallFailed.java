@@ -27,9 +27,10 @@ public final class CallFailed extends RuntimeException {
 
     private static String messageOf(String name, Result result) {
         String end = result.line().isEmpty() ? result.ending() + ", status " + result.status() : result.line();
+        String function = result.fault() == null || result.fault().function() == null ? "" : " in " + result.fault().function();
         byte[] said = result.errorOutput();
         int start = Math.max(said.length - SHOWN_BYTES, 0);
         String text = new String(said, start, said.length - start, StandardCharsets.UTF_8).trim();
-        return name + ": " + end + (text.isEmpty() ? "" : ": " + text);
+        return name + ": " + end + function + (text.isEmpty() ? "" : ": " + text);
     }
 }

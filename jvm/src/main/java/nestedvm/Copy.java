@@ -39,7 +39,12 @@ final class Copy {
 
     /** Loads and verifies the main class. The others are loaded as they are used. */
     Copy(ClassSource source, String name, Images images) throws ReflectiveOperationException {
-        main = Class.forName(name, true, new ProgramClasses(source, name));
+        this(Class.forName(name, true, new ProgramClasses(source, name)), images);
+    }
+
+    /** The classes of a program, whose main class is loaded already. */
+    Copy(Class<?> main, Images images) throws ReflectiveOperationException {
+        this.main = main;
         this.images = images;
         fields = new StaticFields(main);
         run = clearing(method("run"));

@@ -7,11 +7,22 @@ public final class Fault {
     private final int kind;
     private final int address;
     private final int value;
+    private final String function;
 
     Fault(int kind, int address, int value) {
+        this(kind, address, value, null);
+    }
+
+    private Fault(int kind, int address, int value, String function) {
         this.kind = kind;
         this.address = address;
         this.value = value;
+        this.function = function;
+    }
+
+    /** The same fault, in one of these functions. */
+    Fault in(Functions functions) {
+        return new Fault(kind, address, value, functions.at(address));
     }
 
     /**
@@ -39,6 +50,15 @@ public final class Fault {
      */
     public int value() {
         return value;
+    }
+
+    /**
+     * The function in which the instruction at fault is, and how many bytes behind its start.
+     *
+     * @return as {@code main+1C}, where the number is hexadecimal; null where the program has told no functions (docs/JAVA.md)
+     */
+    public String function() {
+        return function;
     }
 
     @Override

@@ -47,7 +47,7 @@ final class GuestFiles {
     void add(String path, byte[] content) {
         int needed = GuestFile.blocksFor(content.length);
         if (needed > freeBlocks) {
-            throw new Stopped(Answer.filesTooLarge((long) blocks - freeBlocks + needed));
+            throw new Stopped(Answer.filesTooLarge((long) blocks - freeBlocks + needed, blocks));
         }
         freeBlocks -= needed;
         insert(path, content);

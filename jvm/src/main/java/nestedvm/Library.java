@@ -84,7 +84,7 @@ public final class Library implements AutoCloseable {
     }
 
     private CallFailed failure(Answer answer) {
-        return new CallFailed(name, session.result(name, answer));
+        return new CallFailed(name, session.result(name, answer.in(program.functions())));
     }
 
     /** The table has the addresses of a name and of its function in turn, and 0 behind them. */
@@ -210,7 +210,7 @@ public final class Library implements AutoCloseable {
         if (answer.ending() == Ending.EXITED) {
             isOver = true;
         }
-        return new CallFailed(name, session.failure(name, answer));
+        return new CallFailed(name, session.failure(name, answer.in(program.functions())));
     }
 
     /**

@@ -44,7 +44,7 @@ final class LiveFolder {
         try {
             return new LiveFolder(root.toRealPath(), access == FolderAccess.READ_AND_WRITE, true);
         } catch (IOException | RuntimeException failure) {
-            throw new Stopped(Answer.shelfFault(failure));
+            throw new Stopped(Answer.noFolder(root.toString(), failure));
         }
     }
 

@@ -18,6 +18,7 @@ public final class Program {
     private final String className;
     private final String name;
     private final Images images;
+    private Functions functions;
     private final CopyPool pool = new CopyPool();
 
     private Program(ClassSource source, String className, String name) {
@@ -136,6 +137,14 @@ public final class Program {
         } catch (ReflectiveOperationException | LinkageError refused) {
             throw new IllegalArgumentException(className + " is no main class of a program: " + refused.getMessage(), refused);
         }
+    }
+
+    /** The functions that the program tells, read when they are first asked for. */
+    synchronized Functions functions() {
+        if (functions == null) {
+            functions = new Functions(source.findSymbols(className));
+        }
+        return functions;
     }
 
     /** Runs a copy of the program in this thread, over a system. */

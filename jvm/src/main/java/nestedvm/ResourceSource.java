@@ -19,14 +19,19 @@ final class ResourceSource implements ClassSource {
 
     @Override
     public byte[] find(String className) {
-        return files.computeIfAbsent(className, this::load);
+        return files.computeIfAbsent(className, name -> load(name + ".class"));
     }
 
-    private byte[] load(String className) {
-        try (InputStream file = resources.getResourceAsStream(folder + className + ".class")) {
+    @Override
+    public byte[] findSymbols(String className) {
+        return load(className + StoredSource.SYMBOLS);
+    }
+
+    private byte[] load(String name) {
+        try (InputStream file = resources.getResourceAsStream(folder + name)) {
             return file == null ? null : WholeStream.of(file);
         } catch (IOException failure) {
-            throw new IllegalStateException("cannot read class " + className, failure);
+            throw new IllegalStateException("cannot read " + folder + name, failure);
         }
     }
 }

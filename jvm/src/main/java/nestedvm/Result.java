@@ -145,6 +145,7 @@ public final class Result {
 
     @Override
     public String toString() {
-        return name + ": " + ending() + ", status " + status() + (line().isEmpty() ? "" : ", " + line());
+        return name + ": " + ending() + ", status " + status() + (line().isEmpty() ? "" : ", " + line())
+            + (fault() == null || fault().function() == null ? "" : " in " + fault().function());
     }
 }

@@ -13,10 +13,14 @@ import java.util.zip.ZipFile;
 
 /** The class files of a program, all read, and held to their confinement, when it was made. */
 final class StoredSource implements ClassSource {
+    /** What the names of files of symbols end with. */
+    static final String SYMBOLS = ".symbols";
+
     private static final String SUFFIX = ".class";
 
     private final Map<String, byte[]> files = new HashMap<>();
     private final Confinement confinement;
+    private byte[] symbols;
 
     private StoredSource(String name) {
         confinement = new Confinement(name);
@@ -25,6 +29,8 @@ final class StoredSource implements ClassSource {
     /** The class files of the program of a name in a folder. */
     static StoredSource ofFolder(Path folder, String name) throws IOException {
         StoredSource source = new StoredSource(name);
+        Path symbols = folder.resolve(name + SYMBOLS);
+        source.symbols = Files.isRegularFile(symbols) ? Files.readAllBytes(symbols) : null;
         try (DirectoryStream<Path> paths = Files.newDirectoryStream(folder, "*" + SUFFIX)) {
             for (Path path : paths) {
                 String file = path.getFileName().toString();
@@ -39,6 +45,12 @@ final class StoredSource implements ClassSource {
     /** The class files of the program of a name in a folder of a jar, whose name is empty or ends with a slash. */
     static StoredSource ofJar(ZipFile jar, String folder, String name) throws IOException {
         StoredSource source = new StoredSource(name);
+        ZipEntry symbols = jar.getEntry(folder + name + SYMBOLS);
+        if (symbols != null) {
+            try (InputStream file = jar.getInputStream(symbols)) {
+                source.symbols = WholeStream.of(file);
+            }
+        }
         Enumeration<? extends ZipEntry> entries = jar.entries();
         while (entries.hasMoreElements()) {
             ZipEntry entry = entries.nextElement();
@@ -67,5 +79,10 @@ final class StoredSource implements ClassSource {
     @Override
     public byte[] find(String className) {
         return files.get(className);
+    }
+
+    @Override
+    public byte[] findSymbols(String className) {
+        return symbols;
     }
 }

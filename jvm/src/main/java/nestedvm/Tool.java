@@ -10,6 +10,12 @@ import java.util.Arrays;
  * itself. The process ends with the program's status, or as docs/ANSWERS.md says of {@code nested run}.
  */
 public final class Tool {
+    /**
+     * The property by which the command that {@code jvm/package} has made tells that the classes of the program stand on the class path as well, so that
+     * they come from a shared archive.
+     */
+    private static final String START = "nestedvm.start";
+
     private Tool() {
     }
 
@@ -48,6 +54,9 @@ public final class Tool {
 
     private static Copy copyOf(ProgramEntry program) {
         try {
+            if (Boolean.getBoolean(START)) {
+                return new Copy(Class.forName(program.className(), true, Tool.class.getClassLoader()), Images.NONE);
+            }
             return new Copy(new ResourceSource(Tool.class.getClassLoader(), program.folder()), program.className(), Images.NONE);
         } catch (ReflectiveOperationException missing) {
             throw new Stopped(Answer.linkRefused(missing.toString()));
