@@ -78,7 +78,7 @@ final class FunctionTests {
     @DisplayName("what is too large is told with its limit")
     void limits() throws IOException {
         Program deeds = Guests.program("deeds");
-        assertEquals("Main: its arguments need 5014 bytes, and there are at most 4096",
+        assertEquals("Main: its arguments need 5013 bytes, and there are at most 4096",
             refusal(deeds.call(String.join("", Collections.nCopies(4995, "x")))));
         assertEquals("Main: its files need 2 blocks of 4096 bytes or more, and there are 1", refusal(deeds.call().file("a", new byte[4097]).blocks(1)));
         assertTrue(refusal(deeds.call().folder(Paths.get("none"), FolderAccess.READ)).startsWith("Main: its folder none cannot be opened: "), "another message");
