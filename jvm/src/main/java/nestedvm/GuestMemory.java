@@ -16,6 +16,9 @@ final class GuestMemory {
     private static final int PAGE_MASK = PAGE_BYTES - 1;
     private static final int WORD_MASK = 1023;
 
+    /** The most bytes of a text that are read up to its zero. */
+    static final int LONGEST_TEXT = 16_777_216;
+
     /** The bytes of a path that are looked at. */
     private static final int PATH_BYTES = 256;
 
@@ -138,6 +141,9 @@ final class GuestMemory {
         int length = 0;
         int value = byteAt(address);
         while (value > 0) {
+            if (length == LONGEST_TEXT) {
+                throw new Refusal(Refusal.TOO_LARGE);
+            }
             length++;
             value = length < bytesFrom(address) ? byteAt(address + length) : -1;
         }

@@ -316,7 +316,7 @@ public final class Library implements AutoCloseable {
      *
      * @param address where it begins
      * @return the text
-     * @throws IllegalArgumentException where a byte before the first zero cannot be read
+     * @throws IllegalArgumentException where a byte before the first zero cannot be read, or there is none among 16,777,217 bytes
      * @throws IllegalStateException where the library is closed
      */
     public synchronized String text(int address) {

@@ -118,6 +118,10 @@ final class ResidentMemory {
         try {
             return memory.bytesToZero(address);
         } catch (Refusal refusal) {
+            if (refusal.error() == Refusal.TOO_LARGE) {
+                throw new IllegalArgumentException(
+                    name + " has no zero within " + GuestMemory.LONGEST_TEXT + " bytes from " + Addresses.text(address) + " on, where a text was to be");
+            }
             throw notThere(address, 1);
         }
     }

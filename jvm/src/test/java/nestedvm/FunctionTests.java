@@ -9,9 +9,11 @@ import java.io.File;
 import java.io.IOException;
 import java.net.URL;
 import java.net.URLClassLoader;
+import java.nio.ByteOrder;
 import java.nio.file.Files;
 import java.nio.file.Path;
 import java.nio.file.Paths;
+import java.util.Arrays;
 import java.util.Collections;
 import java.util.Locale;
 import org.junit.jupiter.api.DisplayName;
@@ -68,6 +70,20 @@ final class FunctionTests {
             CallFailed failed = assertThrows(CallFailed.class, () -> library.call(16));
             assertEquals("all+10", failed.result().fault().function());
         }
+    }
+
+    @Test
+    @DisplayName("a text that is too long")
+    void longText() {
+        int[] page = new int[1024];
+        Arrays.fill(page, 0x61616161);
+        int[][] pages = new int[5000][];
+        Arrays.fill(pages, page);
+        ResidentMemory memory = new ResidentMemory("Main", new GuestMemory(pages, pages), ByteOrder.BIG_ENDIAN);
+        String message = assertThrows(IllegalArgumentException.class, () -> memory.bytesToZero(4096)).getMessage();
+        assertTrue(message.startsWith("Main has no zero within 16777216 bytes from 00001000 on"), message);
+        pages[4999] = new int[1024];
+        assertEquals(4096, memory.bytesToZero(4998 << 12).length);
     }
 
     private static String refusal(Call call) {
