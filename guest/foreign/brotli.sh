@@ -1,0 +1,11 @@
+source=brotli
+
+build() {
+    by_cmake
+}
+
+try() {
+    take brotli build/brotli
+    sizes=(--heap 8192)
+    packs brotli -q 9 -c -- -dc
+}
