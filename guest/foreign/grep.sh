@@ -2,7 +2,7 @@ source=grep
 
 build() {
     by_configure --disable-nls --disable-perl-regexp
-    make -j "$JOBS"
+    make -j "$JOBS" SUBDIRS='lib src'
 }
 
 try() {

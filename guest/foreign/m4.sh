@@ -2,7 +2,7 @@ source=m4
 
 build() {
     by_configure --disable-nls
-    make -j "$JOBS"
+    make -j "$JOBS" SUBDIRS='. lib src'
 }
 
 try() {

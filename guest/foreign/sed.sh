@@ -2,7 +2,7 @@ source=sed
 
 build() {
     by_configure --disable-nls --disable-acl --without-selinux
-    make -j "$JOBS"
+    make -j "$JOBS" SUBDIRS=.
 }
 
 try() {

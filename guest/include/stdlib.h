@@ -1,5 +1,9 @@
-/* newlib's own, and the program's name. */
+/* newlib's own, and the program's name. Programs have functions itoa and utoa of their own, which are no part of any standard. */
+#define itoa __itoa
+#define utoa __utoa
 #include_next <stdlib.h>
+#undef itoa
+#undef utoa
 
 #ifndef NESTED_STDLIB_H
 #define NESTED_STDLIB_H

@@ -342,7 +342,7 @@ int fstat(int fd, struct stat *into)
     describe(into, S_IFREG | 0666, OF_FILES, descriptors[fd].number);
     into->st_size = (off_t)words[1];
     into->st_blocks = words[2] * 8;     /* of 512 bytes */
-    if (nested_host_has_folders() && nested_host_name(HOST_DESCRIPTOR, itoa(fd, digits, 10), name) != 0)
+    if (nested_host_has_folders() && nested_host_name(HOST_DESCRIPTOR, __itoa(fd, digits, 10), name) != 0)
         nested_host_stat("", name, into);
     return 0;
 }

@@ -55,8 +55,8 @@ void nested_tell_sizes(void)
 {
     char digits[12];
     put("used: --heap ");
-    put(utoa(heap_pages(), digits, 10));
+    put(__utoa(heap_pages(), digits, 10));
     put(" --stack ");
-    put(utoa(stack_pages(), digits, 10));
+    put(__utoa(stack_pages(), digits, 10));
     put("\n");
 }

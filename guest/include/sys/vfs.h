@@ -1,0 +1,2 @@
+/* The same as <sys/statfs.h>. */
+#include <sys/statfs.h>
