@@ -1,5 +1,4 @@
 import java.nio.file.Paths;
-import java.util.concurrent.TimeUnit;
 import nestedvm.JavaFunction;
 import nestedvm.Library;
 import nestedvm.Memory;
@@ -8,10 +7,10 @@ import nestedvm.Program;
 
 /**
  * Times calls between Java and C once they are warm, and copies of bytes: of the programs {@code functions}, {@code callbacks} and {@code types} of
- * {@code jvm/guests}, each translated in a folder of its name. Times are the least of many rounds.
+ * {@code jvm/guests}, each translated in a folder of its name. Times are the least of many rounds, so that other load of the machine counts little.
  */
 public final class LibraryCalls {
-    private static final long ROUNDS_NANOS = TimeUnit.SECONDS.toNanos(4);
+    private static final int ROUNDS = 3_000;
     private static final int ROUND = 1_000;
     private static final int SORTED = 100_000;
     private static final int BYTES = 1 << 19;
@@ -147,14 +146,11 @@ public final class LibraryCalls {
 
     /** The least nanoseconds of one of so many calls. */
     private static double least(int count, Timed timed) {
-        long end = System.nanoTime() + ROUNDS_NANOS;
         long least = Long.MAX_VALUE;
-        long start = System.nanoTime();
-        while (start < end) {
+        for (int round = 0; round < ROUNDS; round++) {
+            long start = System.nanoTime();
             timed.run(count);
-            long now = System.nanoTime();
-            least = Math.min(least, now - start);
-            start = System.nanoTime();
+            least = Math.min(least, System.nanoTime() - start);
         }
         return (double) least / count;
     }

@@ -14,7 +14,7 @@ package nestedvm;
  */
 final class CallStack {
     /** The most calls that have not returned. */
-    static final int MOST_CALLS = 256;
+    static final int MOST_CALLS = 128;
 
     private static final int ANSWER_BYTES = 8;
 
@@ -52,6 +52,9 @@ final class CallStack {
 
     /** The second word of the last answer. */
     private int second;
+
+    /** The return from the last call, as most returns are. It is made once, since that takes long, and is taken where it is thrown. */
+    private final Returned direct = new Returned(this, 0, 0, 0);
 
     CallStack(String name, GuestSystem system, Registers registers, GuestMemory pages, ResidentMemory memory, Callbacks callbacks, Ready ready) {
         this.name = name;
@@ -153,7 +156,7 @@ final class CallStack {
             }
             jump = null;
             if (departure instanceof Returned) {
-                return returned((Returned) departure);
+                return withoutFailure((Returned) departure);
             }
             departure = goOn((Resumed) departure);
         }
@@ -165,7 +168,7 @@ final class CallStack {
         return departure.owner() != this || depth > 1 && Integer.compareUnsigned(departure.stack(), own) > 0;
     }
 
-    private Returned returned(Returned returned) {
+    private Returned withoutFailure(Returned returned) {
         if (failure != null) {
             throw new Stopped(Answer.callbackFailed(failure));
         }
@@ -185,6 +188,15 @@ final class CallStack {
     }
 
     // ---- calls by the program
+
+    /** A function returns, with the stack pointer with which it was entered. */
+    Returned returned(int first, int second, int stack) {
+        if (stack != entry) {
+            return new Returned(this, first, second, stack);
+        }
+        direct.set(first, second);
+        return direct;
+    }
 
     /** The program calls the function of Java of a stub: its words stand at an address. It has a stack pointer, and a place at which it can go on. */
     int callback(int number, int words, int stack, int place) throws Refusal {

@@ -34,7 +34,7 @@ final class ResidentCalls implements HostCalls {
         }
         switch (number) {
             case RETURNED:
-                throw new Returned(stack, a0, a1, a2);
+                throw stack.returned(a0, a1, a2);
             case CALLBACK:
                 return stack.callback(a0, a1, a2, a3);
             case SECOND:

@@ -4,11 +4,16 @@ package nestedvm;
 final class Returned extends Departure {
     private static final long serialVersionUID = 1;
 
-    private final int first;
-    private final int second;
+    private int first;
+    private int second;
 
     Returned(CallStack owner, int first, int second, int stack) {
         super(owner, stack);
+        set(first, second);
+    }
+
+    /** From now on it has given these words. */
+    final void set(int first, int second) {
         this.first = first;
         this.second = second;
     }

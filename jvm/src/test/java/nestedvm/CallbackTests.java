@@ -164,7 +164,7 @@ final class CallbackTests {
                 while (root.getCause() != null) {
                     root = root.getCause();
                 }
-                assertTrue(root.getMessage().contains("256 calls"), root.toString());
+                assertTrue(root.getMessage().contains(CallStack.MOST_CALLS + " calls"), root.toString());
                 assertEquals(100, nested(library, address[0], 100));
             }
         }
