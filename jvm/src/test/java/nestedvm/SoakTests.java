@@ -10,6 +10,8 @@ import java.util.Random;
 import java.util.concurrent.ExecutorService;
 import java.util.concurrent.Executors;
 import java.util.concurrent.Future;
+import java.util.concurrent.Semaphore;
+import java.util.concurrent.TimeUnit;
 import org.junit.jupiter.api.Assumptions;
 import org.junit.jupiter.api.DisplayName;
 import org.junit.jupiter.api.Test;
@@ -18,6 +20,10 @@ import org.junit.jupiter.api.Test;
 final class SoakTests {
     private static final int CALLS = Integer.getInteger("nested.soak", 2_000);
     private static final int THREADS = 8;
+
+    /** The calls that are made at once, each beside a library: more have no room in 64 MB. */
+    private static final int AT_ONCE = 2;
+
     private static final int EXIT = 1;
     private static final int MOST_CALL = 80;
 
@@ -42,6 +48,7 @@ final class SoakTests {
             inPool(pool);
         } finally {
             pool.shutdown();
+            assertTrue(pool.awaitTermination(10, TimeUnit.MINUTES), "a call does not end");
         }
     }
 
@@ -59,18 +66,23 @@ final class SoakTests {
             inPool(pool);
         } finally {
             pool.shutdown();
+            assertTrue(pool.awaitTermination(10, TimeUnit.MINUTES), "a call does not end");
         }
     }
 
     private static void inPool(ExecutorService pool) throws Exception {
         Program deeds = Guests.program("deeds");
         Program functions = Guests.program("functions");
+        Semaphore atOnce = new Semaphore(AT_ONCE);
         List<Future<String>> results = new ArrayList<>();
         for (int i = 0; i < CALLS / 10; i++) {
             String text = Integer.toString(i);
             results.add(pool.submit(() -> {
+                atOnce.acquire();
                 try (Library library = functions.call().library()) {
                     return echoed(deeds, text) + library.call(library.function("next"));
+                } finally {
+                    atOnce.release();
                 }
             }));
         }
