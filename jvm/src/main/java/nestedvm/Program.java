@@ -1,6 +1,11 @@
 package nestedvm;
 
 import java.io.IOException;
+import java.io.InvalidObjectException;
+import java.io.NotSerializableException;
+import java.io.ObjectInputStream;
+import java.io.ObjectStreamException;
+import java.io.Serializable;
 import java.nio.file.Path;
 import java.util.zip.ZipFile;
 
@@ -12,14 +17,20 @@ import java.util.zip.ZipFile;
  * for each call that runs at the same time. A copy is used again, so its code is compiled once: the first calls of a program are slow and later
  * ones fast. At most as many idle copies are kept as there are processors. A call leaves no thread, no open file and nothing
  * in the copy.
+ *
+ * <p>A program whose classes are resources, by {@link #of}, goes into a stream of objects as the name of its main class. Where it is read, the classes
+ * are resources of the thread's context class loader, or of the one that loaded this class where a thread has none. All that read it there have one
+ * program, with its copies, which is kept until memory is short.
  */
-public final class Program {
-    private final ClassSource source;
+public final class Program implements Serializable {
+    private static final long serialVersionUID = 1;
+
+    private final transient ClassSource source;
     private final String className;
     private final String name;
-    private final Images images;
-    private Functions functions;
-    private final CopyPool pool = new CopyPool();
+    private final transient Images images;
+    private transient Functions functions;
+    private final transient CopyPool pool = new CopyPool();
 
     private Program(ClassSource source, String className, String name) {
         this.source = source;
@@ -123,6 +134,17 @@ public final class Program {
      */
     public Call call(String... arguments) {
         return new Call(this, arguments);
+    }
+
+    private Object writeReplace() throws ObjectStreamException {
+        if (source instanceof ResourceSource) {
+            return new ProgramName(((ResourceSource) source).folder() + className);
+        }
+        throw new NotSerializableException(name + ": only a program whose classes are resources of a class loader is written to a stream of objects");
+    }
+
+    private void readObject(ObjectInputStream stream) throws InvalidObjectException {
+        throw new InvalidObjectException("a program is read by its name");
     }
 
     /** A copy that makes no run, which {@link #putBack} takes back. */

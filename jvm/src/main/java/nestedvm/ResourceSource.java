@@ -17,6 +17,11 @@ final class ResourceSource implements ClassSource {
         this.folder = folder;
     }
 
+    /** The name of the folder, empty or with a slash at its end. */
+    String folder() {
+        return folder;
+    }
+
     @Override
     public byte[] find(String className) {
         return files.computeIfAbsent(className, name -> load(name + ".class"));
