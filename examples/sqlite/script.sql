@@ -1,0 +1,14 @@
+CREATE TABLE stars (name TEXT PRIMARY KEY, constellation TEXT, magnitude REAL, seen BLOB);
+INSERT INTO stars VALUES ('Sirius', 'Canis Major', -1.46, x'00ff'), ('Vega', 'Lyra', 0.03, NULL), ('Rigel', 'Orion', 0.13, zeroblob(2));
+INSERT INTO stars SELECT 'star ' || value, 'Nowhere', value / 10.0, NULL FROM (WITH RECURSIVE n(value) AS (SELECT 1 UNION ALL SELECT value + 1 FROM n LIMIT 200) SELECT * FROM n);
+SELECT count(*), printf('%.3f', sum(magnitude)), min(name), max(name) FROM stars;
+SELECT name, magnitude, hex(seen) FROM stars WHERE constellation <> 'Nowhere' ORDER BY magnitude;
+CREATE INDEX by_magnitude ON stars (magnitude);
+SELECT name FROM stars WHERE magnitude BETWEEN 3.0 AND 3.5 ORDER BY magnitude DESC LIMIT 4;
+UPDATE stars SET name = upper(name) WHERE magnitude < 0;
+SELECT group_concat(name, ', ') FROM (SELECT name FROM stars ORDER BY magnitude LIMIT 5);
+WITH RECURSIVE f(a, b) AS (SELECT 0, 1 UNION ALL SELECT b, a + b FROM f LIMIT 50) SELECT max(a) FROM f;
+SELECT strftime('%Y-%m-%d', '2000-02-28', '+2 days'), date('2024-01-31', '+1 month'), julianday('2000-01-01 12:00');
+SELECT a.name, count(*) OVER (ORDER BY a.magnitude) FROM stars AS a WHERE a.magnitude < 0.3 ORDER BY a.magnitude;
+DELETE FROM stars WHERE constellation = 'Nowhere';
+SELECT quote(name), quote(seen), typeof(magnitude) FROM stars ORDER BY name;
