@@ -1,6 +1,7 @@
 package service;
 
 import java.nio.charset.StandardCharsets;
+import java.time.Duration;
 import nestedvm.Call;
 import nestedvm.Ending;
 import nestedvm.Program;
@@ -14,6 +15,9 @@ final class Engine {
     /** The most bytes of rows. */
     static final int MOST_OUTPUT = 1 << 20;
 
+    /** The most instructions of a call. */
+    static final long MOST_INSTRUCTIONS = 200_000_000;
+
     /** The disk of a guest, in blocks of 4,096 bytes. */
     static final int MOST_BLOCKS = 2_048;
 
@@ -22,18 +26,17 @@ final class Engine {
     private static final String DATABASE = "data.db";
 
     private final Program shell;
-    private final Deadlines deadlines = new Deadlines();
-    private final long milliseconds;
+    private final Duration time;
 
-    /** Calls take at most so many milliseconds. */
-    Engine(Program shell, long milliseconds) {
+    /** Calls of a metered program, which take at most so long. */
+    Engine(Program shell, Duration time) {
         this.shell = shell;
-        this.milliseconds = milliseconds;
+        this.time = time;
     }
 
     /** The bytes of a database with one table, of this name, which CSV with a header fills. */
     byte[] load(String table, byte[] csv) throws Refused {
-        Call call = shell.call("NESTED_TTY=", "HOME=/", "--", "-bail", DATABASE, ".import --csv data.csv " + table).file("data.csv", csv);
+        Call call = shell.call("-bail", DATABASE, ".import --csv data.csv " + table).file("data.csv", csv);
         byte[] database = run(call, new LimitedOutput(MOST_OUTPUT)).file(DATABASE);
         if (database == null || database.length == 0) {
             throw new Refused(400, "this is not CSV with a header");
@@ -44,17 +47,15 @@ final class Engine {
     /** The rows that SQL gives over a database, as JSON. What it changes in the database is gone with the call. */
     byte[] query(byte[] database, byte[] sql) throws Refused {
         LimitedOutput rows = new LimitedOutput(MOST_OUTPUT);
-        run(shell.call("NESTED_TTY=", "HOME=/", "--", "-bail", "-json", DATABASE).file(DATABASE, database).input(sql), rows);
+        run(shell.call("-bail", "-json", DATABASE).file(DATABASE, database).input(sql), rows);
         byte[] json = rows.bytes();
         return json.length == 0 ? "[]\n".getBytes(StandardCharsets.UTF_8) : json;
     }
 
     private Result run(Call call, LimitedOutput output) throws Refused {
         LimitedOutput errors = new LimitedOutput(MOST_ERROR_OUTPUT);
-        Result result;
-        try (Deadlines.Deadline inTime = deadlines.start(milliseconds)) {
-            result = call.blocks(MOST_BLOCKS).output(output).errorOutput(errors).run();
-        }
+        Result result = call.environment("HOME", "/").terminals(false, false, false).blocks(MOST_BLOCKS).instructions(MOST_INSTRUCTIONS).deadline(time)
+            .output(output).errorOutput(errors).run();
         if (result.ending() != Ending.EXITED || result.status() != 0) {
             throw refusal(result, errors);
         }
@@ -67,11 +68,11 @@ final class Engine {
                 return new Refused(400, new String(errors.bytes(), StandardCharsets.UTF_8).trim());
             case OUTPUT_FAILED:
                 return new Refused(422, "the answer has more than " + MOST_OUTPUT + " bytes");
-            case INTERRUPTED:
-                return new Refused(422, "the query takes more than " + milliseconds + " milliseconds");
+            case TIMED_OUT:
+                return new Refused(422, "the query takes more than " + time.toMillis() + " milliseconds");
             case FAULTED:
                 return result.fault().kind() == SPENT_METER
-                    ? new Refused(422, "the query takes more instructions than it may")
+                    ? new Refused(422, "the query takes more than " + MOST_INSTRUCTIONS + " instructions")
                     : new Refused(500, result.line());
             default:
                 return new Refused(500, result.line());

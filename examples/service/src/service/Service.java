@@ -1,6 +1,7 @@
 package service;
 
 import com.sun.net.httpserver.HttpServer;
+import java.io.ByteArrayOutputStream;
 import java.io.IOException;
 import java.io.InputStream;
 import java.net.InetAddress;
@@ -9,13 +10,14 @@ import java.nio.charset.StandardCharsets;
 import java.nio.file.Files;
 import java.nio.file.Path;
 import java.nio.file.Paths;
+import java.time.Duration;
 import java.util.HashMap;
 import java.util.List;
 import java.util.Map;
 import java.util.concurrent.Executors;
 import nestedvm.Program;
 
-/** A service that answers SQL over tables which its tenants send: the JDK's own server, and SQLite's shell behind it. */
+/** A service that answers SQL over tables which its tenants send. It is the JDK's own server, and runs SQLite's shell for each of them. */
 public final class Service {
     /** The threads that read requests and write answers. A client that is slow holds one of them. */
     private static final int THREADS = 64;
@@ -23,8 +25,8 @@ public final class Service {
     /** Calls that are made before the first request is taken, so that the guest's code is compiled. */
     private static final int FIRST_CALLS = 20;
 
-    /** The most milliseconds of one of these, an hour. */
-    private static final long LONG = 3_600_000;
+    /** The most time of one of these. */
+    private static final Duration LONG = Duration.ofHours(1);
 
     private Service() {
     }
@@ -33,13 +35,13 @@ public final class Service {
      * Starts the service.
      *
      * @param words the port, the number of guests that run at a time, the most milliseconds of one, and a file with the keys of the tenants, one a line
-     * @throws IOException where the file cannot be read, or the port cannot be taken
+     * @throws IOException if the file cannot be read, or the port cannot be taken
      */
     public static void main(String[] words) throws IOException {
         int guests = Integer.parseInt(words[1]);
         Program shell = Program.of(Service.class.getClassLoader(), "sqlite3/Sqlite3");
         warm(new Engine(shell, LONG));
-        Engine engine = new Engine(shell, Long.parseLong(words[2]));
+        Engine engine = new Engine(shell, Duration.ofMillis(Long.parseLong(words[2])));
         Counters counters = new Counters();
         Requests requests = new Requests(tenants(Paths.get(words[3]), guests), engine, new Turns(guests), counters);
         byte[] page = page();
@@ -76,12 +78,11 @@ public final class Service {
 
     private static byte[] page() throws IOException {
         try (InputStream stream = Service.class.getResourceAsStream("page.html")) {
-            byte[] bytes = new byte[1 << 16];
-            int length = 0;
-            for (int count = stream.read(bytes); count > 0; count = stream.read(bytes, length, bytes.length - length)) {
-                length += count;
+            ByteArrayOutputStream page = new ByteArrayOutputStream();
+            for (int next = stream.read(); next >= 0; next = stream.read()) {
+                page.write(next);
             }
-            return java.util.Arrays.copyOf(bytes, length);
+            return page.toByteArray();
         }
     }
 }
