@@ -16,7 +16,7 @@ public final class Driver {
      * Writes a task.
      *
      * @param words the file, the resource of the program's main class, and arguments of the program
-     * @throws IOException where the file cannot be written
+     * @throws IOException if the file cannot be written
      */
     public static void main(String[] words) throws IOException {
         Program program = Program.of(Driver.class.getClassLoader(), words[1]);

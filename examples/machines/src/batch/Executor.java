@@ -19,7 +19,7 @@ public final class Executor {
      * Performs a task over files, and writes what comes of each to a folder, under the same name.
      *
      * @param words the file of the task, the folder, the number of threads, and the files
-     * @throws Exception where a file cannot be read or written, or the program fails
+     * @throws Exception if a file cannot be read or written, or the program fails
      */
     public static void main(String[] words) throws Exception {
         Task task;
