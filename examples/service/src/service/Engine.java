@@ -13,10 +13,10 @@ import nestedvm.Result;
  */
 final class Engine {
     /** The most bytes of rows. */
-    static final int MOST_OUTPUT = 1 << 20;
+    static final int MOST_OUTPUT = 1 << 18;
 
     /** The most instructions of a call. */
-    static final long MOST_INSTRUCTIONS = 200_000_000;
+    static final long MOST_INSTRUCTIONS = 50_000_000;
 
     /** The disk of a guest, in blocks of 4,096 bytes. */
     static final int MOST_BLOCKS = 2_048;
