@@ -1,4 +1,4 @@
-# How often each word stands, the ten most frequent ones.
+# How often each word occurs, the ten most frequent ones.
 {
     gsub(/[^A-Za-z]+/, " ")
     for (i = 1; i <= NF; i++) count[tolower($i)]++
