@@ -10,11 +10,12 @@ import java.time.Instant;
 import java.time.ZoneOffset;
 import java.util.ArrayList;
 import java.util.Arrays;
+import java.util.Collections;
 import java.util.LinkedHashMap;
 import java.util.List;
 import java.util.Map;
 import java.util.Objects;
-import java.util.function.LongSupplier;
+import java.util.Random;
 
 /**
  * A call of a program that is to be made: its arguments, its streams, its files and its moment.
@@ -41,6 +42,7 @@ public final class Call {
     private FolderAccess access;
     private int blocks = GuestFiles.MOST_BLOCKS;
     private Clock clock;
+    private Random random;
     private int heapPages = GuestSystem.AS_TRANSLATED;
     private Long instructions;
     private Duration time;
@@ -189,9 +191,10 @@ public final class Call {
     }
 
     /**
-     * The moment that the program takes for the present, as long as it runs. At first it is the moment at which the call is run.
+     * The moment that the program takes for the present, as long as it runs: its clock stands still, and to wait takes no time. At first the clock is
+     * that of the process.
      *
-     * @param seconds seconds since 1970, of which the program sees the lowest 31 bits
+     * @param seconds seconds since 1970, of which the program sees the lowest 31 bits where it asks by the system's call
      * @return this
      */
     public Call moment(long seconds) {
@@ -199,13 +202,25 @@ public final class Call {
     }
 
     /**
-     * The clock by which the program tells the present, as {@link Clock#systemUTC} for one that runs.
+     * The clock by which the program tells the present, as {@link Clock#systemUTC} for one that runs. At first the system's call tells the moment at
+     * which the call is run, and a file of the host (docs/HOST.md) the time of the process.
      *
-     * @param running the clock, of which the program sees seconds, and of these the lowest 31 bits
+     * @param running the clock. Of its seconds a program sees the lowest 31 bits where it asks by the system's call
      * @return this
      */
     public Call clock(Clock running) {
         clock = Objects.requireNonNull(running);
+        return this;
+    }
+
+    /**
+     * Where the program's random bytes come from ({@code /dev/urandom}). At first they are those of a {@link java.security.SecureRandom}.
+     *
+     * @param source a source of bytes; one that begins with the same seed gives the same run
+     * @return this
+     */
+    public Call random(Random source) {
+        random = Objects.requireNonNull(source);
         return this;
     }
 
@@ -340,7 +355,10 @@ public final class Call {
 
     private Session newSession(HostCalls hostCalls) {
         Arguments words = Arguments.of(name, words());
-        GuestFiles guestFiles = new GuestFiles(blocks, folder == null ? null : LiveFolder.of(folder, access));
+        Meter meter = new Meter(instructions, time);
+        GuestClock guestClock = clock == null ? GuestClock.running(meter::check) : GuestClock.of(clock, meter::check);
+        HostFiles host = new HostFiles(guestClock, random, Collections.emptyMap());
+        GuestFiles guestFiles = new GuestFiles(blocks, folder == null ? null : LiveFolder.of(folder, access), host);
         for (Map.Entry<String, byte[]> file : files.entrySet()) {
             guestFiles.add(Names.pathOf(file.getKey()), file.getValue());
         }
@@ -350,17 +368,8 @@ public final class Call {
             input == null ? new ByteArrayInputStream(inputBytes) : input,
             output == null ? gathered : output,
             errorOutput == null ? errorsGathered : errorOutput);
-        GuestSystem system = new GuestSystem(console, guestFiles, words, seconds(), hostCalls, heapPages, new Meter(instructions, time));
+        GuestSystem system = new GuestSystem(console, guestFiles, words, guestClock::seconds, hostCalls, heapPages, meter);
         return new Session(console, guestFiles, system, gathered, errorsGathered);
-    }
-
-    private LongSupplier seconds() {
-        if (clock == null) {
-            long now = System.currentTimeMillis() / 1000;
-            return () -> now;
-        }
-        Clock told = clock;
-        return () -> told.instant().getEpochSecond();
     }
 
     /** The words behind argument 0. */

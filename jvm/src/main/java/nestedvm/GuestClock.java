@@ -10,6 +10,9 @@ import java.util.concurrent.TimeUnit;
 final class GuestClock {
     private static final int BYTES = 36;
 
+    /** The nanoseconds for which it waits at once: then it looks whether the run may go on. */
+    private static final long PIECE = 20_000_000;
+
     /** A clock that the caller has given, or null. */
     private final Clock given;
 
@@ -18,19 +21,23 @@ final class GuestClock {
     /** The moment at which the run began, or null where a given clock has not yet been asked. */
     private Instant start;
 
-    private GuestClock(Clock given, Instant start) {
+    /** What ends the run where it may not go on. */
+    private final Runnable check;
+
+    private GuestClock(Clock given, Instant start, Runnable check) {
         this.given = given;
         this.start = start;
+        this.check = check;
     }
 
-    /** The clock of the process. By the system's call it tells the moment at which the run began. */
-    static GuestClock running() {
-        return new GuestClock(null, Instant.now());
+    /** The clock of the process, and what ends a run that waits too long. By the system's call it tells the moment at which the run began. */
+    static GuestClock running(Runnable check) {
+        return new GuestClock(null, Instant.now(), check);
     }
 
-    /** A clock that the caller has given. */
-    static GuestClock of(Clock given) {
-        return new GuestClock(given, null);
+    /** A clock that the caller has given, and what ends a run that waits too long. */
+    static GuestClock of(Clock given, Runnable check) {
+        return new GuestClock(given, null, check);
     }
 
     /** The seconds since 1970 that the system's call tells. */
@@ -65,8 +72,12 @@ final class GuestClock {
         if (standsStill()) {
             return;
         }
+        long begin = System.nanoTime();
         try {
-            TimeUnit.NANOSECONDS.sleep(nanoseconds);
+            for (long rest = nanoseconds; rest > 0; rest = nanoseconds - (System.nanoTime() - begin)) {
+                TimeUnit.NANOSECONDS.sleep(Math.min(rest, PIECE));
+                check.run();
+            }
         } catch (InterruptedException interrupt) {
             throw new Stopped(Answer.interrupted());
         }

@@ -34,7 +34,7 @@ final class HostFiles {
 
     /** Those of a process, whose terminals the environment tells. */
     static HostFiles ofProcess() {
-        return new HostFiles(GuestClock.running(), null, Terminals.environment());
+        return new HostFiles(GuestClock.running(() -> { }), null, Terminals.environment());
     }
 
     GuestClock clock() {

@@ -12,6 +12,7 @@ import java.nio.ByteBuffer;
 import java.nio.file.Files;
 import java.nio.file.Path;
 import java.nio.file.attribute.FileTime;
+import java.time.Duration;
 import java.util.Arrays;
 import java.util.Random;
 import org.junit.jupiter.api.DisplayName;
@@ -146,6 +147,14 @@ final class HostFileTests {
             assertEquals(Ending.INTERRUPTED, failed.result().ending());
             other.join();
         }
+    }
+
+    @Test
+    @DisplayName("a program whose time is over while it waits")
+    void waitsTooLong() throws IOException {
+        Program metered = Guests.program("deeds", "--meter", "2147483647");
+        Result result = metered.call("copy", "/dev/nested/sleep/999999999999999999", "x").deadline(Duration.ofMillis(100)).run();
+        assertEquals(Ending.TIMED_OUT, result.ending());
     }
 
     @Test
