@@ -26,7 +26,8 @@ import org.junit.jupiter.api.Test;
 
 /** Calls of programs: what comes of them, and that one leaves nothing to the next. */
 final class ProgramTests {
-    private static final int THREADS = 8;
+    /** The threads that call at once: the tables of pages of more have no room in 64 MB. */
+    private static final int THREADS = 5;
     private static final int INPUTS = 100;
 
     private final Program deeds = Guests.program("deeds");
@@ -83,7 +84,7 @@ final class ProgramTests {
     }
 
     @Test
-    @DisplayName("eight threads of a hundred inputs")
+    @DisplayName("five threads of a hundred inputs")
     void threads() throws Exception {
         List<String> expected = new ArrayList<>();
         for (int i = 0; i < INPUTS; i++) {
