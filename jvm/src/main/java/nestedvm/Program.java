@@ -26,8 +26,8 @@ public final class Program implements Serializable {
     private static final long serialVersionUID = 1;
 
     private final transient ClassSource source;
-    private final String className;
-    private final String name;
+    private final transient String className;
+    private final transient String name;
     private final transient Images images;
     private transient Functions functions;
     private final transient CopyPool pool = new CopyPool();
@@ -136,6 +136,12 @@ public final class Program implements Serializable {
         return new Call(this, arguments);
     }
 
+    /**
+     * What stands for this program in a stream of objects: the name of its main class.
+     *
+     * @return the name
+     * @throws ObjectStreamException where the classes are no resources of a class loader
+     */
     private Object writeReplace() throws ObjectStreamException {
         if (source instanceof ResourceSource) {
             return new ProgramName(((ResourceSource) source).folder() + className);
@@ -143,6 +149,12 @@ public final class Program implements Serializable {
         throw new NotSerializableException(name + ": only a program whose classes are resources of a class loader is written to a stream of objects");
     }
 
+    /**
+     * Refuses a program that did not go into the stream by its name.
+     *
+     * @param stream is not read
+     * @throws InvalidObjectException always
+     */
     private void readObject(ObjectInputStream stream) throws InvalidObjectException {
         throw new InvalidObjectException("a program is read by its name");
     }
