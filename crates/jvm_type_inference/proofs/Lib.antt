@@ -1,11 +1,16 @@
 pub mod Unique
 pub mod KindLaws
+pub mod OperandLaws
 pub mod StackLaws
 pub mod JoinLaws
 pub mod FlowLaws
 pub mod TableLaws
+pub mod MarkLaws
 pub mod StepLaws
-pub mod SettleLaws
 pub mod CallLaws
+pub mod WalkLaws
+pub mod SpreadLaws
+pub mod SettleLaws
+pub mod InferLaws
 pub mod LeastLaws
 pub mod SameLaws

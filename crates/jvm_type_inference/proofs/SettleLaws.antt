@@ -1,5 +1,5 @@
 -- Frames come to rest.
-use Rattle.std.proofs.Common.{◌≡◌, ℕ, suc, ◌<◌, ◌≤◌, Bool, true, false, ◌||◌, List, [], ◌∷◌, ◌++◌, length, get_or, set, replicate, refl, sym, ap, subst, ◌∙◌, Option, Some, None, arith, ⊎_elim}
+use Rattle.std.proofs.Common.{◌≡◌, ℕ, zero, suc, ◌<◌, ◌≤◌, Bool, true, false, ◌||◌, List, [], ◌∷◌, ◌++◌, length, get_or, set, replicate, refl, sym, ap, subst, ◌∙◌, Option, Some, None, arith, ⊎_elim}
 use Rattle.std.specs.Prelude.{option_map, option_and_then, slice_get, All, nat_eq}
 use Rattle.std.proofs.lemmas.Bool.{false≢true, true≢false, cases_eq, cases_lt, eq-eqb, ne_eqb, eqb-true}
 use Rattle.std.proofs.lemmas.List.{get_or-set_same, get_or-set_other, get_or_past, length-replicate}
@@ -7,80 +7,77 @@ use Rattle.std.proofs.lemmas.Option.{same_Some, none-some}
 use Rattle.jvm_definition.specs.declared.linked_line.LinkedLine.{LinkedLine}
 use Rattle.jvm_definition.specs.declared.linked_method.LinkedMethod.{LinkedMethod}
 use Rattle.jvm_definition.specs.Program.{Program, line_in, successors}
-use Rattle.jvm_definition.specs.Typing.{TypeFrame, Below, Frames, Follows, Receives, IsTypingTo, entry_frame, no_top}
+use Rattle.jvm_definition.specs.Typing.{TypeFrame, Below, Frames, Receives, IsTypingTo, IsTyping, entry_frame, no_top}
 use Rattle.jvm_type_inference.specs.declared.frame.Frame.{Frame}
-use Rattle.jvm_type_inference.specs.Actions.{Enters}
+use Rattle.jvm_type_inference.specs.Blocks.{before_in, AreBlocks, Runs, Closed, Covers, WalkFails, WalkEnds, AreSpread}
 use Rattle.jvm_type_inference.specs.Verdict.{AreBelow, AreLeast, FailsAt}
 use Rattle.jvm_type_inference.specs.Frames.{type_frame, frame_at, entry_of, IsFormed}
-use Rattle.jvm_type_inference.specs.Flow.{has, Rises, Waits, FlowsToAll, HaveOperands, AllStayBelow, RuleHolds, Visits, KeepsBelow, Keeps, Settles, Rests, IsTable}
+use Rattle.jvm_type_inference.specs.Flow.{has, Rises, Waits, FlowsToAll, HaveOperands, AllStayBelow, Visits, KeepsBelow, Keeps, Settles, Rests, IsTable}
 use Rattle.jvm_type_inference.proofs.JoinLaws.{Below-refl}
 use Rattle.jvm_type_inference.proofs.FlowLaws.{Slots, Rises-refl, Rises-trans, Moves-refl, has-push, frame_at-some, frame_at-is, received-rises}
 use Rattle.jvm_type_inference.proofs.TableLaws.{none-of}
 use Rattle.jvm_type_inference.proofs.StepLaws.{typing-step}
+use Rattle.jvm_type_inference.proofs.CallLaws.{some-there}
+use Rattle.jvm_type_inference.proofs.SpreadLaws.{spread-of, are-spread, receives-spread, follows-spread, typed-inside}
 
--- ---- an instruction is looked at
+-- ---- a block is looked at
 
-pub visited : (program : Program) (method : LinkedMethod) (limit at : ℕ) (line : LinkedLine) (f b : TypeFrame) (frames : Slots) (work : List ℕ) (after : Slots) (later : List ℕ) → line_in method.lines at ≡ Some line → frame_at frames at ≡ Some f → Enters program method line.instruction f b → FlowsToAll method limit b (successors line) frames work after later → Visits program method limit at frames work after later
-visited program method limit at line f b frames work after later line-is frame-is enters all = record {
+pub visited : (program : Program) (method : LinkedMethod) (before : List (Option ℕ)) (limit at last : ℕ) (line : LinkedLine) (f e : TypeFrame) (frames : Slots) (work : List ℕ) (after : Slots) (later : List ℕ) → frame_at frames at ≡ Some f → WalkEnds program method before at f last e → line_in method.lines last ≡ Some line → FlowsToAll method limit e (successors line) frames work after later → Visits program method before limit at frames work after later
+visited program method before limit at last line f e frames work after later frame-is walk line-is all = record {
   moves = all.moves;
-  rule = λ line' f' l e.
-      let same-line : line ≡ line' = same_Some line line' (sym line-is ∙ l) in
-      let same-frame : f ≡ f' = same_Some f f' (sym frame-is ∙ e) in
-      subst (λ x. Follows program method (frame_at after) x f') same-line
-      (subst (λ x. Follows program method (frame_at after) line x) same-frame
-      (record { local = enters.local; behind = b; fits = enters.fits; within = enters.within; goes_on = all.received }));
+  rule = λ line' f' l none is.
+      let same-frame : f ≡ f' = same_Some f f' (sym frame-is ∙ is) in
+      subst (λ x. Runs program method before (frame_at after) at x) same-frame
+      (record { last = last; end = e; reaches = walk.reaches; line = line; is = line-is; goes_on = all.received });
 }
 
-pub visited-nothing : (program : Program) (method : LinkedMethod) (limit at : ℕ) (frames : Slots) (work : List ℕ) → RuleHolds program method frames frames at → Visits program method limit at frames work frames work
-visited-nothing program method limit at frames work rule = record { moves = Moves-refl method.locals method.stack limit frames work; rule = rule }
-
-pub no-line : (program : Program) (method : LinkedMethod) (frames : Slots) (at : ℕ) → line_in method.lines at ≡ None → RuleHolds program method frames frames at
-no-line program method frames at none line f l e = absurd (none-some line (sym none ∙ l))
-
-pub no-frame : (program : Program) (method : LinkedMethod) (frames : Slots) (at : ℕ) → get_or frames at None ≡ None → RuleHolds program method frames frames at
-no-frame program method frames at none line f l e = absurd (none-some f (sym (ap (option_map type_frame) none) ∙ e))
+pub visited-nothing : (program : Program) (method : LinkedMethod) (before : List (Option ℕ)) (limit at : ℕ) (frames : Slots) (work : List ℕ) → ((line : LinkedLine) (f : TypeFrame) → line_in method.lines at ≡ Some line → before_in before at ≡ None → frame_at frames at ≡ Some f → ⊥) → Visits program method before limit at frames work frames work
+visited-nothing program method before limit at frames work none = record {
+  moves = Moves-refl method.locals method.stack limit frames work;
+  rule = λ line f l e is. absurd (none line f l e is);
+}
 
 operands-of : (program : Program) (method : LinkedMethod) (others : Frames) (last : ℕ) → IsTypingTo program method others last → HaveOperands others
 operands-of program method others last typing = record { each = λ at f e. typing.operands at f e }
 
-pub visited-below : (program : Program) (method : LinkedMethod) (limit at : ℕ) (line : LinkedLine) (f b : TypeFrame) (frames : Slots) (good : Bool) (after : Slots) → at < limit → line_in method.lines at ≡ Some line → frame_at frames at ≡ Some f → Enters program method line.instruction f b → AllStayBelow method b (successors line) frames good after → KeepsBelow program method limit frames good after
-visited-below program method limit at line f b frames good after admitted line-is frame-is enters all = record {
-  each = λ others last to typing under.
+pub visited-below : (program : Program) (method : LinkedMethod) (before : List (Option ℕ)) (limit at last : ℕ) (line : LinkedLine) (f e : TypeFrame) (frames : Slots) (good : Bool) (after : Slots) → Closed before limit → at < limit → frame_at frames at ≡ Some f → WalkEnds program method before at f last e → line_in method.lines last ≡ Some line → AllStayBelow method e (successors line) frames good after → KeepsBelow program method limit frames good after
+visited-below program method before limit at last line f e frames good after closed admitted frame-is walk line-is all = record {
+  each = λ others most to typing under.
       let g = under at f frame-is in
-      let step = typing-step program method others last at line f g.0 typing (omega (arith, admitted, to)) line-is g.1 g.2 in
-      let same : step.0 ≡ b = same_Some step.0 b (sym (step.1).fits ∙ enters.fits) in
-      all.each others (operands-of program method others last typing) under (subst (λ x. All (Receives method others x) (successors line)) same step.2);
+      let within = walk.covers.closed limit closed admitted in
+      all.each others (operands-of program method others most typing) under (walk.under line line-is others most (omega (arith, within, to)) typing g.0 g.1 g.2);
 }
 
-pub refused-visit : (program : Program) (method : LinkedMethod) (limit at : ℕ) (line : LinkedLine) (f : TypeFrame) (frames after : Slots) → at < limit → line_in method.lines at ≡ Some line → frame_at frames at ≡ Some f → ((b : TypeFrame) → Enters program method line.instruction f b → ⊥) → KeepsBelow program method limit frames false after
-refused-visit program method limit at line f frames after admitted line-is frame-is refuse = record {
-  each = λ others last to typing under.
+pub refused-visit : (program : Program) (method : LinkedMethod) (before : List (Option ℕ)) (limit at fault : ℕ) (f : TypeFrame) (frames after : Slots) → Closed before limit → at < limit → frame_at frames at ≡ Some f → WalkFails program method before at f fault → KeepsBelow program method limit frames false after
+refused-visit program method before limit at fault f frames after closed admitted frame-is walk = record {
+  each = λ others most to typing under.
       let g = under at f frame-is in
-      let step = typing-step program method others last at line f g.0 typing (omega (arith, admitted, to)) line-is g.1 g.2 in
-      absurd (refuse step.0 step.1);
+      let within = walk.covers.closed limit closed admitted in
+      absurd (walk.fails others most (omega (arith, within, to)) typing g.0 g.1 g.2);
 }
 
--- ---- instructions are looked at until no work waits
+-- ---- blocks are looked at until no work waits
 
-pub record IsSettling (program : Program) (method : LinkedMethod) (limit : ℕ) (first frames : Slots) (work : List ℕ) : Type 0 where
+pub record IsSettling (program : Program) (method : LinkedMethod) (before : List (Option ℕ)) (limit : ℕ) (first frames : Slots) (work : List ℕ) : Type 0 where
   pub rises : Rises first frames
-  pub keeps : Keeps program method limit frames work
+  pub keeps : Keeps program method before limit frames work
   pub below : (others : Frames) (last : ℕ) → limit ≤ suc last → IsTypingTo program method others last → AreBelow (frame_at first) others → AreBelow (frame_at frames) others
 
-pub settling : (program : Program) (method : LinkedMethod) (limit : ℕ) (frames : Slots) (work : List ℕ) → Keeps program method limit frames work → IsSettling program method limit frames frames work
-settling program method limit frames work keeps = record {
+pub settling : (program : Program) (method : LinkedMethod) (before : List (Option ℕ)) (limit : ℕ) (frames : Slots) (work : List ℕ) → Keeps program method before limit frames work → IsSettling program method before limit frames frames work
+settling program method before limit frames work keeps = record {
   rises = Rises-refl frames;
   keeps = keeps;
   below = λ others last to typing under. under;
 }
 
-follows-rises : (program : Program) (method : LinkedMethod) (frames after : Slots) (line : LinkedLine) (f : TypeFrame) → Rises frames after → Follows program method (frame_at frames) line f → Follows program method (frame_at after) line f
-follows-rises program method frames after line f p rule = record {
-  local = rule.local;
-  behind = rule.behind;
-  fits = rule.fits;
-  within = rule.within;
-  goes_on = λ k d h. received-rises method frames after rule.behind (get_or (successors line) k d) p (rule.goes_on k d h);
+runs-rises : (program : Program) (method : LinkedMethod) (before : List (Option ℕ)) (frames after : Slots) (at : ℕ) (f : TypeFrame) → Rises frames after → Runs program method before (frame_at frames) at f → Runs program method before (frame_at after) at f
+runs-rises program method before frames after at f p run = record {
+  last = run.last;
+  end = run.end;
+  reaches = run.reaches;
+  line = run.line;
+  is = run.is;
+  goes_on = λ k d h. received-rises method frames after run.end (get_or (successors run.line) k d) p (run.goes_on k d h);
 }
 
 or-right : (x y : Bool) → y ≡ true → (x || y) ≡ true
@@ -96,48 +93,50 @@ or-none true y h k = absurd (true≢false h)
 or-none false y h k = k
 
 -- the offset that is taken from the work was admitted
-pub taken-within : (limit : ℕ) (work before : List ℕ) (at : ℕ) → before ≡ work ++ at ∷ [] → Waits limit before → at < limit
-taken-within limit work before at e w =
+pub taken-within : (limit : ℕ) (work earlier : List ℕ) (at : ℕ) → earlier ≡ work ++ at ∷ [] → Waits limit earlier → at < limit
+taken-within limit work earlier at e w =
     w.each at (ap (λ x. has x at) e ∙ (has-push work at at ∙ or-right (has work at) (nat_eq at at) (eq-eqb at at refl)))
 
-fewer-wait : (limit : ℕ) (work before : List ℕ) (at : ℕ) → before ≡ work ++ at ∷ [] → Waits limit before → Waits limit work
-fewer-wait limit work before at e w = record {
+fewer-wait : (limit : ℕ) (work earlier : List ℕ) (at : ℕ) → earlier ≡ work ++ at ∷ [] → Waits limit earlier → Waits limit work
+fewer-wait limit work earlier at e w = record {
   each = λ x h. w.each x (ap (λ y. has y x) e ∙ (has-push work at x ∙ or-left (has work x) (nat_eq at x) h));
 }
 
-pub settled-more : (program : Program) (method : LinkedMethod) (limit at : ℕ) (first frames : Slots) (work before : List ℕ) (after : Slots) (later : List ℕ) → before ≡ work ++ at ∷ [] → IsSettling program method limit first frames before → Visits program method limit at frames work after later → KeepsBelow program method limit frames true after → IsSettling program method limit first after later
-settled-more program method limit at first frames work before after later e s v k = record {
+pub settled-more : (program : Program) (method : LinkedMethod) (before : List (Option ℕ)) (limit at : ℕ) (first frames : Slots) (work earlier : List ℕ) (after : Slots) (later : List ℕ) → earlier ≡ work ++ at ∷ [] → IsSettling program method before limit first frames earlier → Visits program method before limit at frames work after later → KeepsBelow program method limit frames true after → IsSettling program method before limit first after later
+settled-more program method before limit at first frames work earlier after later e s v k = record {
   rises = Rises-trans first frames after s.rises v.moves.rises;
   keeps = record {
     formed = v.moves.formed s.keeps.formed;
-    waits = v.moves.waits (fewer-wait limit work before at e s.keeps.waits);
-    rules = λ x less idle line f l is.
+    waits = v.moves.waits (fewer-wait limit work earlier at e s.keeps.waits);
+    rules = λ x less idle line f l none is.
         let still = v.moves.same_frame x less idle in
         let was : frame_at frames x ≡ Some f = sym (ap (option_map type_frame) still) ∙ is in
         ⊎_elim
-        (λ here. v.rule line f (subst (λ y. line_in method.lines y ≡ Some line) here l) (subst (λ y. frame_at frames y ≡ Some f) here was))
+        (λ here.
+        subst (λ y. Runs program method before (frame_at after) y f) (sym here)
+        (v.rule line f (subst (λ y. line_in method.lines y ≡ Some line) here l) (subst (λ y. before_in before y ≡ None) here none) (subst (λ y. frame_at frames y ≡ Some f) here was)))
         (λ there.
-        let before-idle : has before x ≡ false = ap (λ y. has y x) e ∙ (has-push work at x ∙ or-none (has work x) (nat_eq at x) (v.moves.same_work x idle) (ne_eqb at x (λ q. there (sym q)))) in
-        follows-rises program method frames after line f v.moves.rises (s.keeps.rules x less before-idle line f l was))
+        let was-idle : has earlier x ≡ false = ap (λ y. has y x) e ∙ (has-push work at x ∙ or-none (has work x) (nat_eq at x) (v.moves.same_work x idle) (ne_eqb at x (λ q. there (sym q)))) in
+        runs-rises program method before frames after x f v.moves.rises (s.keeps.rules x less was-idle line f l none was))
         (cases_eq x at);
   };
   below = λ others last to typing under. (k.each others last to typing (s.below others last to typing under)).1;
 }
 
-pub settles : (program : Program) (method : LinkedMethod) (limit : ℕ) (first frames : Slots) (work : List ℕ) → work ≡ [] → IsSettling program method limit first frames work → Settles program method limit first frames
-settles program method limit first frames work e s = record {
+pub settles : (program : Program) (method : LinkedMethod) (before : List (Option ℕ)) (limit : ℕ) (first frames : Slots) (work : List ℕ) → work ≡ [] → IsSettling program method before limit first frames work → Settles program method before limit first frames
+settles program method before limit first frames work e s = record {
   rises = s.rises;
-  keeps = subst (λ x. Keeps program method limit frames x) e s.keeps;
+  keeps = subst (λ x. Keeps program method before limit frames x) e s.keeps;
 }
 
-pub settled-below : (program : Program) (method : LinkedMethod) (limit : ℕ) (first frames : Slots) (work : List ℕ) → IsSettling program method limit first frames work → KeepsBelow program method limit first true frames
-settled-below program method limit first frames work s = record { each = λ others last to typing under. (refl, s.below others last to typing under) }
+pub settled-below : (program : Program) (method : LinkedMethod) (before : List (Option ℕ)) (limit : ℕ) (first frames : Slots) (work : List ℕ) → IsSettling program method before limit first frames work → KeepsBelow program method limit first true frames
+settled-below program method before limit first frames work s = record { each = λ others last to typing under. (refl, s.below others last to typing under) }
 
 -- frames before which others stood
-pub refused-settling : (program : Program) (method : LinkedMethod) (limit : ℕ) (first frames : Slots) (work : List ℕ) (good : Bool) (after : Slots) → IsSettling program method limit first frames work → KeepsBelow program method limit frames good after → KeepsBelow program method limit first good after
-refused-settling program method limit first frames work good after s k = record { each = λ others last to typing under. k.each others last to typing (s.below others last to typing under) }
+pub refused-settling : (program : Program) (method : LinkedMethod) (before : List (Option ℕ)) (limit : ℕ) (first frames : Slots) (work : List ℕ) (good : Bool) (after : Slots) → IsSettling program method before limit first frames work → KeepsBelow program method limit frames good after → KeepsBelow program method limit first good after
+refused-settling program method before limit first frames work good after s k = record { each = λ others last to typing under. k.each others last to typing (s.below others last to typing under) }
 
--- ---- the next instruction is admitted
+-- ---- the block at the next offset is admitted
 
 one-has : (at x : ℕ) → (nat_eq at x || false) ≡ true → at ≡ x
 one-has at x h = eqb-true at x (by-test (nat_eq at x) h)
@@ -149,98 +148,194 @@ one-has at x h = eqb-true at x (by-test (nat_eq at x) h)
 has-one : (at x : ℕ) → at ≡ x → (nat_eq at x || false) ≡ true
 has-one at x e = or-left (nat_eq at x) false (eq-eqb at x e)
 
-pub admitted : (program : Program) (method : LinkedMethod) (at : ℕ) (frames : Slots) (work : List ℕ) → work ≡ at ∷ [] → Keeps program method at frames [] → Keeps program method (suc at) frames work
-admitted program method at frames work e keeps = record {
+-- what lies before and in it is left by no block
+pub closed-behind : (program : Program) (method : LinkedMethod) (before : List (Option ℕ)) (at last : ℕ) (f e : TypeFrame) → AreBlocks method before → WalkEnds program method before at f last e → Closed before (suc last)
+closed-behind program method before at last f e blocks walk n x into less =
+    let i = blocks.inside n x into in
+    let line = some-there (line_in method.lines last) walk.there in
+    ⊎_elim
+    (λ more.
+    ⊎_elim
+    (λ same. absurd (walk.ends n (into ∙ ap Some same)))
+    (λ other. absurd (none-some line.0 (sym (i.alone last (omega (arith, other, less)) more) ∙ line.1)))
+    (cases_eq x last))
+    (λ most. omega (arith, most))
+    (cases_lt last n)
+
+admitted : (program : Program) (method : LinkedMethod) (before : List (Option ℕ)) (at last : ℕ) (f : TypeFrame) (frames : Slots) (work : List ℕ) → work ≡ at ∷ [] → Covers program method before at f last → Keeps program method before at frames [] → Keeps program method before (suc last) frames work
+admitted program method before at last f frames work e covers keeps = record {
   formed = keeps.formed;
-  waits = record { each = λ x h. let same : at ≡ x = one-has at x (ap (λ y. has y x) (sym e) ∙ h) in omega (arith, same) };
-  rules = λ x less idle.
+  waits = record { each = λ x h. let same : at ≡ x = one-has at x (ap (λ y. has y x) (sym e) ∙ h) in omega (arith, same, covers.order) };
+  rules = λ x less idle line g l none is.
       let other : at ≡ x → ⊥ = λ q. true≢false (sym (ap (λ y. has y x) e ∙ has-one at x q) ∙ idle) in
-      keeps.rules x (omega (arith, other, less)) refl;
+      ⊎_elim
+      (λ below. keeps.rules x below refl line g l none is)
+      (λ above. absurd (covers.alone x line (omega (arith, other, above)) (omega (arith, less)) l none))
+      (cases_lt x at);
 }
 
--- no instruction stands at the next offset
-pub nothing-admitted : (program : Program) (method : LinkedMethod) (at : ℕ) (frames : Slots) → line_in method.lines at ≡ None → Keeps program method at frames [] → Settles program method (suc at) frames frames
-nothing-admitted program method at frames none keeps = record {
-  rises = Rises-refl frames;
-  keeps = record {
-    formed = keeps.formed;
-    waits = record { each = λ x h. absurd (false≢true h) };
-    rules = λ x less idle line f l is.
-        ⊎_elim
-        (λ here. absurd (none-some line (sym none ∙ subst (λ y. line_in method.lines y ≡ Some line) here l)))
-        (λ there. keeps.rules x (omega (arith, there, less)) refl line f l is)
-        (cases_eq x at);
-  };
-}
-
-pub nothing-changed : (program : Program) (method : LinkedMethod) (limit : ℕ) (frames : Slots) → KeepsBelow program method limit frames true frames
-nothing-changed program method limit frames = record { each = λ others last to typing under. (refl, under) }
-
--- the instruction at the next offset was looked at, where no work waited
-pub visited-admitted : (program : Program) (method : LinkedMethod) (at : ℕ) (frames : Slots) (work : List ℕ) (after : Slots) (later : List ℕ) → work ≡ [] → Keeps program method at frames [] → Visits program method (suc at) at frames work after later → KeepsBelow program method (suc at) frames true after → IsSettling program method (suc at) frames after later
-visited-admitted program method at frames work after later e keeps v k =
-    settled-more program method (suc at) at frames frames [] (at ∷ []) after later refl
-    (settling program method (suc at) frames (at ∷ []) (admitted program method at frames (at ∷ []) refl keeps))
-    (subst (λ w. Visits program method (suc at) at frames w after later) e v) k
-
-pub settled-admitted : (program : Program) (method : LinkedMethod) (limit : ℕ) (frames after : Slots) (later : List ℕ) (last : Slots) → IsSettling program method limit frames after later → Settles program method limit after last → Settles program method limit frames last
-settled-admitted program method limit frames after later last s t = record {
-  rises = Rises-trans frames after last s.rises t.rises;
-  keeps = t.keeps;
-}
+-- the block at the next offset was looked at, where no work waited
+pub visited-admitted : (program : Program) (method : LinkedMethod) (before : List (Option ℕ)) (at last : ℕ) (f : TypeFrame) (frames : Slots) (work : List ℕ) (after : Slots) (later : List ℕ) → work ≡ [] → Covers program method before at f last → Keeps program method before at frames [] → Visits program method before (suc last) at frames work after later → KeepsBelow program method (suc last) frames true after → IsSettling program method before (suc last) frames after later
+visited-admitted program method before at last f frames work after later e covers keeps v k =
+    settled-more program method before (suc last) at frames frames [] (at ∷ []) after later refl
+    (settling program method before (suc last) frames (at ∷ []) (admitted program method before at last f frames (at ∷ []) refl covers keeps))
+    (subst (λ w. Visits program method before (suc last) at frames w after later) e v) k
 
 -- ---- frames at rest
 
-pub rests-more : (program : Program) (method : LinkedMethod) (at : ℕ) (frames after : Slots) → Rests program method at frames → Settles program method (suc at) frames after → KeepsBelow program method (suc at) frames true after → Rests program method (suc at) after
-rests-more program method at frames after r s k = record {
+pub rests-more : (program : Program) (method : LinkedMethod) (before : List (Option ℕ)) (at last : ℕ) (f : TypeFrame) (frames after : Slots) (later : List ℕ) (end : Slots) → Rests program method before at frames → Covers program method before at f last → IsSettling program method before (suc last) frames after later → Settles program method before (suc last) after end → KeepsBelow program method (suc last) after true end → Rests program method before (suc last) end
+rests-more program method before at last f frames after later end r covers s t k = record {
   parameters = r.parameters;
-  entry = received-rises method frames after (entry_frame method) 0 s.rises r.entry;
-  keeps = s.keeps;
-  least = λ others last to typing. (k.each others last to typing (r.least others last (omega (arith, to)) typing)).1;
+  entry = received-rises method frames end (entry_frame method) 0 (Rises-trans frames after end s.rises t.rises) r.entry;
+  keeps = t.keeps;
+  least = λ others most to typing. (k.each others most to typing (s.below others most to typing (r.least others most (omega (arith, to, covers.order)) typing))).1;
 }
 
-rest-operands : (program : Program) (method : LinkedMethod) (at : ℕ) (frames : Slots) → Rests program method at frames → (x : ℕ) (f : TypeFrame) → frame_at frames x ≡ Some f → no_top f.stack ≡ true
-rest-operands program method at frames r x f e =
+-- no block with a frame begins at the next offset
+pub rests-past : (program : Program) (method : LinkedMethod) (before : List (Option ℕ)) (at : ℕ) (frames : Slots) → ((line : LinkedLine) (f : TypeFrame) → line_in method.lines at ≡ Some line → before_in before at ≡ None → frame_at frames at ≡ Some f → ⊥) → Rests program method before at frames → Rests program method before (suc at) frames
+rests-past program method before at frames nothing r = record {
+  parameters = r.parameters;
+  entry = r.entry;
+  keeps = record {
+    formed = r.keeps.formed;
+    waits = record { each = λ x h. absurd (false≢true h) };
+    rules = λ x less idle line f l none is.
+        ⊎_elim
+        (λ here. absurd (nothing line f (subst (λ y. line_in method.lines y ≡ Some line) here l) (subst (λ y. before_in before y ≡ None) here none) (subst (λ y. frame_at frames y ≡ Some f) here is)))
+        (λ there. r.keeps.rules x (omega (arith, there, less)) refl line f l none is)
+        (cases_eq x at);
+  };
+  least = λ others last to typing. r.least others last (omega (arith, to)) typing;
+}
+
+leader-operands : (program : Program) (method : LinkedMethod) (before : List (Option ℕ)) (at : ℕ) (frames : Slots) → Rests program method before at frames → (x : ℕ) (f : TypeFrame) → frame_at frames x ≡ Some f → no_top f.stack ≡ true
+leader-operands program method before at frames r x f e =
     let g = frame_at-some frames x f e in
     subst (λ y. no_top y.stack ≡ true) g.2 (r.keeps.formed.each x g.0 g.1).operands
 
-typing-before : (program : Program) (method : LinkedMethod) (at : ℕ) (frames : Slots) (earlier : ℕ) → earlier < at → Rests program method at frames → IsTypingTo program method (frame_at frames) earlier
-typing-before program method at frames earlier less r = record {
-  operands = rest-operands program method at frames r;
-  parameters = r.parameters;
-  entry = r.entry;
-  rules = λ x line f to l e. r.keeps.rules x (omega (arith, less, to)) refl line f l e;
-}
+-- no block begins before the first instruction
+first-leads : (method : LinkedMethod) (before : List (Option ℕ)) → AreBlocks method before → before_in before 0 ≡ None
+first-leads method before blocks = by-case (before_in before 0) refl
+  where
+    by-case : (o : Option ℕ) → before_in before 0 ≡ o → before_in before 0 ≡ None
+    by-case None e = e
+    by-case (Some x) e = absurd (omega (arith, (blocks.inside 0 x e).order))
 
-pub fails-at : (program : Program) (method : LinkedMethod) (at : ℕ) (frames after : Slots) → Rests program method at frames → KeepsBelow program method (suc at) frames false after → FailsAt program method at
-fails-at program method at frames after r k = record {
-  fails = λ others typing. false≢true (k.each others at (omega arith) typing (r.least others at (omega arith) typing)).0;
-  before = λ earlier less. (frame_at frames, typing-before program method at frames earlier less r);
-}
+module _ (program : Program) (method : LinkedMethod) (before : List (Option ℕ)) (blocks : AreBlocks method before) (at : ℕ) (frames : Slots) (r : Rests program method before at frames) where
+  -- an instruction inside the block at the next offset is at fault
+  pub fails-at : (line : LinkedLine) (f : TypeFrame) (fault : ℕ) → line_in method.lines at ≡ Some line → before_in before at ≡ None → frame_at frames at ≡ Some f → Covers program method before at f fault → ((others : Frames) → IsTypingTo program method others fault → ⊥) → FailsAt program method fault
+  fails-at line f fault l none is covers fails = record {
+    fails = fails;
+    before = λ earlier less. (
+      spread,
+      record {
+        operands = λ y g e. operands y g e (before_in before y) refl;
+        parameters = r.parameters;
+        entry = receives-spread program method before blocks at frames r.keeps fault spread are (entry_frame method) 0 (first-leads method before blocks) r.entry;
+        rules = λ y line' g to l' e.
+            ⊎_elim
+            (λ below. follows-spread program method before blocks at frames r.keeps fault spread are within y line' g below l' e)
+            (λ above. covers.held spread are.go_on first-is y line' g above (omega (arith, to, less)) l' e)
+            (cases_lt y at);
+      },
+    );
+  }
+    where
+      spread : Frames
+      spread = spread-of program method before (frame_at frames) fault
 
-pub typed-all : (program : Program) (method : LinkedMethod) (at : ℕ) (frames : Slots) → ((x : ℕ) → at ≤ x → line_in method.lines x ≡ None) → Rests program method at frames → AreLeast program method (frame_at frames)
-typed-all program method at frames ends r = record {
-  typing = λ last. record {
-    operands = rest-operands program method at frames r;
-    parameters = r.parameters;
-    entry = r.entry;
-    rules = λ x line f to l e. ⊎_elim (λ less. r.keeps.rules x less refl line f l e) (λ more. absurd (none-some line (sym (ends x more) ∙ l))) (cases_lt x at);
-  };
-  least = λ others typing. r.least others at (omega arith) (typing at);
-}
+      are : AreSpread program method before fault (frame_at frames) spread
+      are = are-spread program method before (frame_at frames) fault blocks
 
--- instructions are admitted in order
-pub record IsAdmitting (program : Program) (method : LinkedMethod) (at : ℕ) (starts : List (Option ℕ)) (frames : Slots) (work : List ℕ) : Type 0 where
-  pub rests : Rests program method at frames
-  pub size : length frames ≡ length starts
-  pub done : work ≡ []
+      first-is : spread at ≡ Some f
+      first-is = are.leaders at none ∙ is
 
-pub next-admitted : (program : Program) (method : LinkedMethod) (at : ℕ) (starts : List (Option ℕ)) (frames : Slots) (work : List ℕ) (after : Slots) (later : List ℕ) → IsAdmitting program method at starts frames work → Settles program method (suc at) frames after → KeepsBelow program method (suc at) frames true after → later ≡ [] → IsAdmitting program method (suc at) starts after later
-next-admitted program method at starts frames work after later a s k e = record {
-  rests = rests-more program method at frames after a.rests s k;
-  size = s.rises.size ∙ a.size;
-  done = e;
-}
+      within : (n x : ℕ) → before_in before n ≡ Some x → x < at → n ≤ fault
+      within n x into less =
+          ⊎_elim
+          (λ more. absurd (none-some line (sym ((blocks.inside n x into).alone at less more) ∙ l)))
+          (λ most. omega (arith, most, covers.order))
+          (cases_lt at n)
+
+      operands : (y : ℕ) (g : TypeFrame) → spread y ≡ Some g → (o : Option ℕ) → before_in before y ≡ o → no_top g.stack ≡ true
+      operands y g e None leads = leader-operands program method before at frames r y g (sym (are.leaders y leads) ∙ e)
+      operands y g e (Some x) into =
+          let i = blocks.inside y x into in
+          ⊎_elim
+          (λ below. typed-inside program method before blocks at frames r.keeps fault spread are y x g into below e)
+          (λ above. covers.typed spread are.go_on first-is y i.there g (omega (arith, above, i.order)) (are.back y x g into e).0 i.there_is e)
+          (cases_lt x at)
+
+  -- no block is left
+  pub typed-all : ((x : ℕ) → at ≤ x → line_in method.lines x ≡ None) → (spread : Frames) → AreSpread program method before at (frame_at frames) spread → AreLeast program method spread
+  typed-all ends spread are = record {
+    typing = λ last. record {
+      operands = λ y g e. operands y g e (before_in before y) refl;
+      parameters = r.parameters;
+      entry = receives-spread program method before blocks at frames r.keeps at spread are (entry_frame method) 0 (first-leads method before blocks) r.entry;
+      rules = λ y line g to l e. follows-spread program method before blocks at frames r.keeps at spread are within y line g (below y line l) l e;
+    };
+    least = λ others typing. least others typing;
+  }
+    where
+      below : (y : ℕ) (line : LinkedLine) → line_in method.lines y ≡ Some line → y < at
+      below y line l = ⊎_elim (λ less. less) (λ more. absurd (none-some line (sym (ends y more) ∙ l))) (cases_lt y at)
+
+      within : (n x : ℕ) → before_in before n ≡ Some x → x < at → n ≤ at
+      within n x into less = let i = blocks.inside n x into in let most = below n i.there i.there_is in omega (arith, most)
+
+      operands : (y : ℕ) (g : TypeFrame) → spread y ≡ Some g → (o : Option ℕ) → before_in before y ≡ o → no_top g.stack ≡ true
+      operands y g e None leads = leader-operands program method before at frames r y g (sym (are.leaders y leads) ∙ e)
+      operands y g e (Some x) into =
+          let i = blocks.inside y x into in
+          typed-inside program method before blocks at frames r.keeps at spread are y x g into (below x i.line i.is) e
+
+      -- what is above the frames at the first instructions is above those inside
+      above-in : (others : Frames) → IsTyping program method others → (k y : ℕ) (g : TypeFrame) → y < k → spread y ≡ Some g → (o : Option ℕ) → before_in before y ≡ o → (u : TypeFrame) × (others y ≡ Some u) × Below g u
+      above-in others typing zero y g h e o is = absurd (omega (arith, h))
+      above-in others typing (suc k) y g h e None leads = r.least others at (omega arith) (typing at) y g (sym (are.leaders y leads) ∙ e)
+      above-in others typing (suc k) y g h e (Some x) into =
+          let i = blocks.inside y x into in
+          let b = are.back y x g into e in
+          let u = above-in others typing k x b.2 (omega (arith, h, i.order)) b.4 (before_in before x) refl in
+          let step = typing-step program method others x x b.1 b.2 u.0 (typing x) (omega arith) b.3 u.1 u.2 in
+          let same : step.0 ≡ g = same_Some step.0 g (sym (step.1).fits ∙ b.5) in
+          let goes : successors b.1 ≡ y ∷ [] = subst (λ z. successors z ≡ y ∷ []) (same_Some i.line b.1 (sym i.is ∙ b.3)) i.goes in
+          let all : All (Receives method others g) (y ∷ []) = subst (λ xs. All (Receives method others g) xs) goes (subst (λ z. All (Receives method others z) (successors b.1)) same step.2) in
+          let received = all 0 0 (omega arith) in
+          (received.1, received.3, received.4)
+
+      least : (others : Frames) → IsTyping program method others → AreBelow spread others
+      least others typing y g e = above-in others typing (suc y) y g (omega arith) e (before_in before y) refl
+
+-- ---- the block at the next offset leads to a frame
+
+module _ (program : Program) (method : LinkedMethod) (before : List (Option ℕ)) (blocks : AreBlocks method before) (at last : ℕ) (first : LinkedLine) (f e : TypeFrame) (frames after : Slots) (later : List ℕ) (r : Rests program method before at frames) (first-is : line_in method.lines at ≡ Some first) (leads : before_in before at ≡ None) (is : frame_at frames at ≡ Some f) (walk : WalkEnds program method before at f last e) where
+  line : (l : LinkedLine) × (line_in method.lines last ≡ Some l)
+  line = some-there (line_in method.lines last) walk.there
+
+  pub left-below : (good : Bool) → ((l : LinkedLine) → line_in method.lines last ≡ Some l → AllStayBelow method e (successors l) frames good after) → KeepsBelow program method (suc last) frames good after
+  left-below good all = visited-below program method before (suc last) at last line.0 f e frames good after (closed-behind program method before at last f e blocks walk) (omega (arith, walk.covers.order)) is walk line.1 (all line.0 line.1)
+
+  pub left : (work : List ℕ) → work ≡ [] → ((l : LinkedLine) → line_in method.lines last ≡ Some l → FlowsToAll method (suc last) e (successors l) frames work after later) → ((l : LinkedLine) → line_in method.lines last ≡ Some l → AllStayBelow method e (successors l) frames true after) → IsSettling program method before (suc last) frames after later
+  left work none flows all =
+      visited-admitted program method before at last f frames work after later none walk.covers r.keeps
+      (visited program method before (suc last) at last line.0 f e frames work after later is walk line.1 (flows line.0 line.1))
+      (left-below true all)
+
+  -- no frames are left
+  pub none-left : KeepsBelow program method (suc last) frames false after → FailsAt program method last
+  none-left k =
+      fails-at program method before blocks at frames r first f last first-is leads is walk.covers
+      (λ others typing. false≢true (k.each others last (omega arith) typing (r.least others last (omega (arith, walk.covers.order)) typing)).0)
+
+-- an instruction inside the block at the next offset cannot be entered
+pub none-walked : (program : Program) (method : LinkedMethod) (before : List (Option ℕ)) (at fault : ℕ) (first : LinkedLine) (f : TypeFrame) (frames : Slots) → AreBlocks method before → Rests program method before at frames → line_in method.lines at ≡ Some first → before_in before at ≡ None → frame_at frames at ≡ Some f → WalkFails program method before at f fault → FailsAt program method fault
+none-walked program method before at fault first f frames blocks r first-is leads is walk =
+    fails-at program method before blocks at frames r first f fault first-is leads is walk.covers
+    (λ others typing.
+    let g = r.least others fault (omega (arith, walk.covers.order)) typing at f is in
+    walk.fails others fault (omega arith) typing g.0 g.1 g.2)
 
 -- ---- the first frames
 
@@ -265,8 +360,8 @@ module _ (method : LinkedMethod) (size : ℕ) (frames : Slots) (inside : 0 < siz
 entry-formed : (method : LinkedMethod) → length method.parameters ≤ method.locals → IsFormed method.locals method.stack (entry_of method)
 entry-formed method fits = record { sized = record { locals_fit = fits; stack_fits = omega arith }; operands = refl }
 
-pub first-rests : (program : Program) (method : LinkedMethod) (line : LinkedLine) (size : ℕ) (frames : Slots) → line_in method.lines 0 ≡ Some line → length method.parameters ≤ method.locals → 0 < size → frames ≡ set (replicate size None) 0 (Some (entry_of method)) → Rests program method 0 frames
-first-rests program method line size frames line-is fits inside e = record {
+pub first-rests : (program : Program) (method : LinkedMethod) (before : List (Option ℕ)) (line : LinkedLine) (size : ℕ) (frames : Slots) → line_in method.lines 0 ≡ Some line → length method.parameters ≤ method.locals → 0 < size → frames ≡ set (replicate size None) 0 (Some (entry_of method)) → Rests program method before 0 frames
+first-rests program method before line size frames line-is fits inside e = record {
   parameters = fits;
   entry = (line, entry_frame method, line-is, frame_at-is frames 0 (entry_of method) (first-frame method size frames inside e), Below-refl (entry_frame method));
   keeps = record {

@@ -3,6 +3,9 @@ pub mod Verdict
 pub mod Joins
 pub mod Frames
 pub mod Actions
+pub mod Blocks
+pub mod Marks
 pub mod Flow
 pub mod Reached
 pub mod Inferred
+pub mod Working

@@ -175,7 +175,7 @@ fn with_stack(
 }
 
 // The type of a local variable.
-fn local_at(locals: &[Kind], index: usize) -> Kind
+pub fn local_at(locals: &[Kind], index: usize) -> Kind
     ensures { result ≡ slice_index_or locals.now index kinds.Top }
 {
     match locals.get(index) {

@@ -3,7 +3,9 @@
 
 mod action;
 mod actions;
+mod admitted;
 mod apply;
+mod blocks;
 mod code;
 mod few_kinds;
 mod flow;
@@ -12,12 +14,20 @@ mod inferred;
 mod kept_kinds;
 mod kind_list;
 mod kinds;
+mod locals;
 mod meet;
 mod meeting;
 mod method;
+mod moving;
+mod operands;
 mod shared_kinds;
 mod shuffle;
+mod spreading;
+mod stepping;
 mod successors;
+mod walk;
+mod walked;
+mod working;
 
 pub use code::{Code, starts_of};
 pub use frame::Frame;

@@ -1,8 +1,17 @@
-use Rattle.jvm_type_inference.specs.Frames.{frame_at}
+use Rattle.std.proofs.Common.{subst, sym, ◌∙◌}
+use Rattle.std.proofs.lemmas.Option.{same_Some}
+use Rattle.std.proofs.lemmas.Result.{IfOk-weaker}
+use Rattle.jvm_type_inference.specs.Actions.{program_over}
+use Rattle.jvm_type_inference.specs.Verdict.{IsVerdict, IsVerdictOf}
 use Rattle.jvm_type_inference.proofs.method.check_method.Goals as goal
 
-pub returns-in-Typed : goal.returns-in-Typed
-returns-in-Typed c method is =
-    let typed = rw c.in-Typed.is at c.in_ok-_frames.ensures in
-    let l = (typed method is).least in
-    record { frames = frame_at c.in-Typed._frames; typing = l.typing; least = l.least }
+pub returns : goal.returns
+returns c =
+    let code = c.in_ok-code.code in
+    let m = code.method.now in
+    let p = program_over code.methods.now in
+    IfOk-weaker c.verdict_by_blocks.result (IsVerdict p m) (IsVerdictOf (program_over c.args.methods.now) c.args.number)
+    (λ o h method is.
+    subst (λ ms. IsVerdict (program_over ms) method o) c.in_ok-code.ensures.methods
+    (subst (λ x. IsVerdict p x o) (same_Some m method (sym c.in_ok-code.ensures.method ∙ is)) h))
+    c.verdict_by_blocks.ensures

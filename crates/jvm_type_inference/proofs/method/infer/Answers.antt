@@ -1,12 +1,17 @@
-use Rattle.std.proofs.Common.{◌≤◌, length, sym, ap, ◌∙◌, arith}
+use Rattle.std.proofs.Common.{subst, sym, ◌∙◌}
+use Rattle.std.proofs.lemmas.Option.{same_Some}
+use Rattle.std.proofs.lemmas.Result.{IfOk-weaker}
 use Rattle.jvm_type_inference.specs.Actions.{program_over}
-use Rattle.jvm_type_inference.proofs.CallLaws.{some-there}
-use Rattle.jvm_type_inference.proofs.SettleLaws.{first-rests}
+use Rattle.jvm_type_inference.specs.Inferred.{IsInferred, IsInferredOf}
 use Rattle.jvm_type_inference.proofs.method.infer.Goals as goal
 
-pub admit_all-requires-clause-rests : goal.admit_all-requires-clause-rests
-admit_all-requires-clause-rests c =
-    let m = c.index-methods-number.result in
-    let fits : length m.parameters ≤ m.locals = omega (arith, c.if-as_slice-from.false, ap length c.as_slice.ensures, c.from.ensures) in
-    let line = some-there _ (sym c.has_line.ensures.found ∙ c.if-not-has_line.false) in
-    first-rests (program_over c.args.methods.now) m line.0 (length c.in_ok-starts.starts.items) c.in_ok-flow.flow.frames.items line.1 fits (c.has_line.ensures.within c.if-not-has_line.false) c.in_ok-flow.ensures.frames
+pub returns : goal.returns
+returns c =
+    let code = c.in_ok-code.code in
+    let m = code.method.now in
+    let p = program_over code.methods.now in
+    IfOk-weaker c.typing_by_blocks.result (IsInferred p m) (IsInferredOf (program_over c.args.methods.now) c.args.number)
+    (λ o h method is.
+    subst (λ ms. IsInferred (program_over ms) method o) c.in_ok-code.ensures.methods
+    (subst (λ x. IsInferred p x o) (same_Some m method (sym c.in_ok-code.ensures.method ∙ is)) h))
+    c.typing_by_blocks.ensures
