@@ -49,16 +49,15 @@ fn frames_from(
     let mut last = None;
     let mut rest = frames;
     while let Some((frame, others)) = rest.split_first() {
-        let before = locals_before(method, &listed);
-        let Some(locals) = locals_of(alloc, pool, before, frame)? else {
+        let before = locals_before(alloc, method, &listed)?;
+        let Some(locals) = locals_of(alloc, pool, &before, frame)? else {
             return Ok(None);
         };
         let stack = operands_of(alloc, pool, frame)?;
-        if !is_within(method, &locals, &stack) {
+        if !is_within(method, locals.as_slice(), &stack) {
             return Ok(None);
         }
         let at = offset_of(last, frame);
-        let locals = SharedKinds::new(alloc, locals)?;
         let stack = KindList::from_slice(alloc, &stack)?;
         listed.push((at, Frame { locals, stack }))?;
         last = Some(at);
@@ -68,12 +67,16 @@ fn frames_from(
 }
 
 // The local variables of the last frame, or the parameters.
-fn locals_before<'a>(method: &'a LinkedMethod, listed: &'a [(u32, Frame)]) -> &'a [Kind]
-    ensures { result.now ≡ last_locals method.now.parameters listed.now }
+fn locals_before(
+    alloc: Global,
+    method: &LinkedMethod,
+    listed: &[(u32, Frame)],
+) -> Result<SharedKinds, AllocError>
+    ensures { IfOk result (λ s. s ≡ last_locals method.now.parameters listed.now) }
 {
     match listed.split_last() {
-        None => method.parameters.as_slice(),
-        Some((last, _others)) => last.1.locals.as_slice(),
+        None => SharedKinds::from_slice(alloc, method.parameters.as_slice()),
+        Some((last, _others)) => last.1.locals.shared(),
     }
 }
 
@@ -81,30 +84,33 @@ fn locals_before<'a>(method: &'a LinkedMethod, listed: &'a [(u32, Frame)]) -> &'
 fn locals_of(
     alloc: Global,
     pool: &[Entry],
-    before: &[Kind],
+    before: &SharedKinds,
     frame: &TableFrame,
-) -> Result<Option<Vec<Kind>>, AllocError>
-    ensures { IfOk result (λ o. option_map (λ v. v.items) o
-        ≡ meaning.locals_of pool.now before.now frame.now) }
+) -> Result<Option<SharedKinds>, AllocError>
+    ensures { IfOk result (λ o. o ≡ meaning.locals_of pool.now before.now frame.now) }
 {
     match frame {
-        TableFrame::Chop(_, dropped) => chopped(alloc, before, usize::from(*dropped)),
+        TableFrame::Chop(_, dropped) => chopped(alloc, before.as_slice(), usize::from(*dropped)),
         TableFrame::Append(_, types) => {
-            let mut locals = Vec::from_slice(alloc, before)?;
+            let mut locals = Vec::from_slice(alloc, before.as_slice())?;
             append_kinds(&mut locals, pool, types.as_slice())?;
-            Ok(Some(locals))
+            Ok(Some(SharedKinds::new(alloc, locals)?))
         }
         TableFrame::Full(_, types, _) => {
             let mut locals = Vec::new(alloc);
             append_kinds(&mut locals, pool, types.as_slice())?;
-            Ok(Some(locals))
+            Ok(Some(SharedKinds::new(alloc, locals)?))
         }
-        _ => Ok(Some(Vec::from_slice(alloc, before)?)),
+        _ => Ok(Some(before.shared()?)),
     }
 }
 
-fn chopped(alloc: Global, before: &[Kind], dropped: usize) -> Result<Option<Vec<Kind>>, AllocError>
-    ensures { IfOk result (λ o. option_map (λ v. v.items) o
+fn chopped(
+    alloc: Global,
+    before: &[Kind],
+    dropped: usize,
+) -> Result<Option<SharedKinds>, AllocError>
+    ensures { IfOk result (λ o. o
         ≡ (if nat_le dropped (length before.now)
         then Some (take (length before.now - dropped) before.now) else None)) }
 {
@@ -112,7 +118,7 @@ fn chopped(alloc: Global, before: &[Kind], dropped: usize) -> Result<Option<Vec<
         return Ok(None);
     }
     let kept = &before[..before.len() - dropped];
-    Ok(Some(Vec::from_slice(alloc, kept)?))
+    Ok(Some(SharedKinds::from_slice(alloc, kept)?))
 }
 
 // Appends the types for which those of a table stand.
