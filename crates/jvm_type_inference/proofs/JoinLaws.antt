@@ -94,7 +94,7 @@ joined-falls (one {k = k} {o = o} {ks = ks} {os = os} {js = js} t f) h =
     (λ e. omega (arith, rank-joined k o, joined-falls f e))
     (and_cases (below o k) (stack_below os ks) h)
 
-operand-is : (k : Kind) (o : Option (List Kind)) (ks : List Kind) → is_top k ≡ false → o ≡ Some ks → with_operand k o ≡ Some (k ∷ ks)
+pub operand-is : (k : Kind) (o : Option (List Kind)) (ks : List Kind) → is_top k ≡ false → o ≡ Some ks → with_operand k o ≡ Some (k ∷ ks)
 operand-is k o ks t e = rw (t, e)
 
 pub joined-some : (ks os us : List Kind) → no_top us ≡ true → stack_below ks us ≡ true → stack_below os us ≡ true → (js : List Kind) × (joined_stacks ks os ≡ Some js) × (stack_below js us ≡ true)

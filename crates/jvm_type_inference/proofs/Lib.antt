@@ -3,6 +3,7 @@ pub mod KindLaws
 pub mod OperandLaws
 pub mod StackLaws
 pub mod JoinLaws
+pub mod StillLaws
 pub mod FlowLaws
 pub mod TableLaws
 pub mod MarkLaws

@@ -1,7 +1,8 @@
 -- What operands take, and how many of them have no type.
-use Rattle.std.proofs.Common.{◌≡◌, ℕ, suc, ◌+◌, ◌*◌, ◌≤◌, Bool, true, false, List, [], ◌∷◌, length, refl, ap, ◌∙◌, arith}
+use Rattle.std.proofs.Common.{◌≡◌, ℕ, suc, ◌+◌, ◌*◌, ◌≤◌, Bool, true, false, List, [], ◌∷◌, length, drop, refl, sym, ap, ◌∙◌, arith}
 use Rattle.std.specs.Prelude.{if◌then◌else◌, nat_eq}
 use Rattle.std.proofs.lemmas.Bool.{ne_eqb}
+use Rattle.std.proofs.lemmas.List.{drop-drop}
 use Rattle.jvm_definition.specs.declared.kind.Kind.{Kind}
 use Rattle.jvm_definition.specs.declared.kind.Kind.TheVariants.{Top, Int, Long, Null, Ints, Pages, Text}
 use Rattle.jvm_definition.specs.Typing.{is_long_kind, slots_of, no_top}
@@ -36,12 +37,15 @@ none-more ks b h = ap (λ n. nat_eq n 0) (zero-plus (tops_of ks)) ∙ h
     zero-plus : (n : ℕ) → 0 + n ≡ n
     zero-plus n = omega arith
 
-pub no-tops : (ks : List Kind) → nat_eq (tops_of ks) 0 ≡ no_top ks
-no-tops [] = refl
-no-tops (Top ∷ ks) = ne_eqb (1 + tops_of ks) 0 (λ e. omega (arith, e))
-no-tops (Int ∷ ks) = none-more ks (no_top ks) (no-tops ks)
-no-tops (Long ∷ ks) = none-more ks (no_top ks) (no-tops ks)
-no-tops (Null ∷ ks) = none-more ks (no_top ks) (no-tops ks)
-no-tops (Ints ∷ ks) = none-more ks (no_top ks) (no-tops ks)
-no-tops (Pages ∷ ks) = none-more ks (no_top ks) (no-tops ks)
-no-tops (Text ∷ ks) = none-more ks (no_top ks) (no-tops ks)
+pub no_tops : (ks : List Kind) → nat_eq (tops_of ks) 0 ≡ no_top ks
+no_tops [] = refl
+no_tops (Top ∷ ks) = ne_eqb (1 + tops_of ks) 0 (λ e. omega (arith, e))
+no_tops (Int ∷ ks) = none-more ks (no_top ks) (no_tops ks)
+no_tops (Long ∷ ks) = none-more ks (no_top ks) (no_tops ks)
+no_tops (Null ∷ ks) = none-more ks (no_top ks) (no_tops ks)
+no_tops (Ints ∷ ks) = none-more ks (no_top ks) (no_tops ks)
+no_tops (Pages ∷ ks) = none-more ks (no_top ks) (no_tops ks)
+no_tops (Text ∷ ks) = none-more ks (no_top ks) (no_tops ks)
+
+pub drop_next : (n : ℕ) (xs ys : List Kind) (x : Kind) → drop n xs ≡ x ∷ ys → drop (n + 1) xs ≡ ys
+drop_next n xs ys x e = sym (drop-drop 1 n xs) ∙ ap (drop 1) e

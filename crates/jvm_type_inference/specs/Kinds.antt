@@ -6,4 +6,4 @@ use Rattle.jvm_type_inference.specs.declared.kept_kinds.KeptKinds.TheVariants.{F
 
 abbrev pub kinds_of : KeptKinds → List Kind
 kinds_of (Few kinds) = kinds
-kinds_of (Many kinds) = kinds.value.items
+kinds_of (Many kinds) = kinds

@@ -9,3 +9,4 @@ pub mod Flow
 pub mod Reached
 pub mod Inferred
 pub mod Working
+pub mod Parts

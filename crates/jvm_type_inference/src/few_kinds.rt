@@ -1,10 +1,10 @@
-ghost use Rattle.std.specs.Prelude.{◌≡◌, ◌<◌, ◌++◌, ◌∷◌, [], true, length, slice_set};
+ghost use Rattle.std.specs.Prelude.{◌≡◌, ◌<◌, ◌++◌, ◌∷◌, [], true, length};
 
 use jvm_definition::Kind;
 use std::marker::Model;
 
 /// The greatest number of types.
-const ROOM: usize = 14;
+pub const ROOM: usize = 14;
 
 /// At most 14 types in order, which cost no memory.
 #[derive(Drop)]
@@ -70,13 +70,5 @@ impl FewKinds {
     {
         self.kinds[usize::from(self.count)] = kind;
         self.count += 1;
-    }
-
-    /// Puts a type in the place of another.
-    pub fn set(&mut self, index: usize, kind: Kind)
-        requires { index < length self.old }
-        ensures { self.new ≡ slice_set self.old index kind }
-    {
-        self.kinds[index] = kind;
     }
 }

@@ -1,7 +1,8 @@
-ghost use Rattle.std.specs.Prelude.{◌≡◌, ◌<◌, ◌++◌, ◌∷◌, [], IfOk, OnOk, length, slice_set};
+ghost use Rattle.std.specs.Prelude.{◌≡◌, ◌++◌, ◌∷◌, [], IfOk, IfSome, OnOk};
 ghost use Rattle.jvm_type_inference.specs.Kinds.{kinds_of};
 
 use crate::few_kinds::FewKinds;
+use crate::long_kinds::LongKinds;
 use jvm_definition::Kind;
 use std::alloc::{AllocError, Global};
 
@@ -9,20 +10,17 @@ use std::alloc::{AllocError, Global};
 #[derive(Drop)]
 pub enum KeptKinds {
     Few(FewKinds),
-    Many(Box<Vec<Kind>>),
+    Many(LongKinds),
 }
 
 impl KeptKinds {
-    /// The same types once more.
-    pub fn copied(&self, alloc: Global) -> Result<KeptKinds, AllocError>
+    /// The same types once more. It takes no memory.
+    pub fn copied(&self) -> Result<KeptKinds, AllocError>
         ensures { IfOk result (λ k. kinds_of k ≡ kinds_of self.now) }
     {
         match self {
             KeptKinds::Few(few) => Ok(KeptKinds::Few(few.copied())),
-            KeptKinds::Many(many) => {
-                let many = Vec::from_slice(alloc, many.as_slice())?;
-                Ok(KeptKinds::Many(Box::new(alloc, many)?))
-            }
+            KeptKinds::Many(many) => Ok(KeptKinds::Many(many.shared()?)),
         }
     }
 
@@ -37,6 +35,17 @@ impl KeptKinds {
         }
     }
 
+    /// Those that several lists may have in common, if they are kept so.
+    #[inline(always)]
+    pub fn many(&self) -> Option<&LongKinds>
+        ensures { IfSome result (λ k. k.now ≡ kinds_of self.now) }
+    {
+        match self {
+            KeptKinds::Few(_few) => None,
+            KeptKinds::Many(many) => Some(many),
+        }
+    }
+
     /// Adds a type after the others.
     #[inline(always)]
     pub fn push(&mut self, alloc: Global, kind: Kind) -> Result<(), AllocError>
@@ -48,26 +57,15 @@ impl KeptKinds {
                     few.push(kind);
                 } else {
                     let many = many_of(alloc, few.as_slice(), kind)?;
-                    *self = KeptKinds::Many(Box::new(alloc, many)?);
+                    *self = KeptKinds::Many(LongKinds::new(alloc, many)?);
                 }
             }
-            KeptKinds::Many(many) => many.push(kind)?,
-        }
-        Ok(())
-    }
-
-    /// Puts a type in the place of another.
-    pub fn set(&mut self, index: usize, kind: Kind)
-        requires { index < length (kinds_of self.old) }
-        ensures { kinds_of self.new ≡ slice_set (kinds_of self.old) index kind }
-    {
-        match self {
-            KeptKinds::Few(few) => few.set(index, kind),
             KeptKinds::Many(many) => {
-                let many: &mut Vec<Kind> = many;
-                many[index] = kind;
+                let many = many_of(alloc, many.as_slice(), kind)?;
+                *self = KeptKinds::Many(LongKinds::new(alloc, many)?);
             }
         }
+        Ok(())
     }
 }
 

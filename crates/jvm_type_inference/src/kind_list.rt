@@ -1,7 +1,8 @@
-ghost use Rattle.std.specs.Prelude.{◌≡◌, ◌<◌, ◌++◌, ◌∷◌, [], IfOk, OnOk, length, slice_set};
+ghost use Rattle.std.specs.Prelude.{◌≡◌, ◌++◌, ◌∷◌, [], IfOk, IfSome, OnOk};
 
-use crate::few_kinds::FewKinds;
+use crate::few_kinds::{FewKinds, ROOM};
 use crate::kept_kinds::KeptKinds;
+use crate::long_kinds::LongKinds;
 use jvm_definition::Kind;
 use std::alloc::{AllocError, Global};
 use std::marker::Model;
@@ -32,6 +33,34 @@ impl KindList {
         }
     }
 
+    /// Types that several lists have in common.
+    pub fn from_long(kinds: LongKinds) -> KindList
+        ensures { result ≡ kinds }
+    {
+        KindList {
+            kept: KeptKinds::Many(kinds),
+        }
+    }
+
+    /// Types that are handed over.
+    pub fn from_vec(alloc: Global, kinds: Vec<Kind>) -> Result<KindList, AllocError>
+        ensures { IfOk result (λ k. k ≡ kinds.items) }
+    {
+        if kinds.len() <= ROOM {
+            return KindList::from_slice(alloc, kinds.as_slice());
+        }
+        let kinds = LongKinds::new(alloc, kinds)?;
+        Ok(KindList::from_long(kinds))
+    }
+
+    /// Those that several lists may have in common, if they are kept so.
+    #[inline(always)]
+    pub fn many(&self) -> Option<&LongKinds>
+        ensures { IfSome result (λ k. k.now ≡ self.now) }
+    {
+        self.kept.many()
+    }
+
     /// Types that lie elsewhere.
     pub fn from_slice(alloc: Global, kinds: &[Kind]) -> Result<KindList, AllocError>
         ensures { IfOk result (λ k. k ≡ kinds.now) }
@@ -42,10 +71,10 @@ impl KindList {
     }
 
     /// The same types once more.
-    pub fn copied(&self, alloc: Global) -> Result<KindList, AllocError>
+    pub fn copied(&self, _alloc: Global) -> Result<KindList, AllocError>
         ensures { IfOk result (λ k. k ≡ self.now) }
     {
-        let kept = self.kept.copied(alloc)?;
+        let kept = self.kept.copied()?;
         Ok(KindList { kept })
     }
 
@@ -66,8 +95,20 @@ impl KindList {
     }
 
     /// Adds types after the others.
-    #[inline(always)]
     pub fn append(&mut self, alloc: Global, kinds: &[Kind]) -> Result<(), AllocError>
+        ensures { OnOk result (self.new ≡ self.old ++ kinds.now) }
+    {
+        if kinds.len() <= ROOM {
+            return self.append_each(alloc, kinds);
+        }
+        let mut all = Vec::from_slice(alloc, self.as_slice())?;
+        all.extend_from_slice(kinds)?;
+        let all = LongKinds::new(alloc, all)?;
+        *self = KindList::from_long(all);
+        Ok(())
+    }
+
+    fn append_each(&mut self, alloc: Global, kinds: &[Kind]) -> Result<(), AllocError>
         ensures { OnOk result (self.new ≡ self.old ++ kinds.now) }
     {
         let mut rest = kinds;
@@ -76,13 +117,5 @@ impl KindList {
             rest = others;
         }
         Ok(())
-    }
-
-    /// Puts a type in the place of another.
-    pub fn set(&mut self, index: usize, kind: Kind)
-        requires { index < length self.old }
-        ensures { self.new ≡ slice_set self.old index kind }
-    {
-        self.kept.set(index, kind);
     }
 }

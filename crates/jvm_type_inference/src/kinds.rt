@@ -1,7 +1,8 @@
 //! Types and the order between them (JVM Specification, 4.10.1.2).
-ghost use Rattle.std.specs.Prelude.{◌≡◌, ◌≤◌, IsTrue, ◌↔◌};
+ghost use Rattle.std.specs.Prelude.{◌≡◌, ◌≤◌, true, IsTrue, ◌↔◌};
 ghost use Rattle.jvm_definition.specs.Typing.{below, is_reference_kind, is_long_kind, is_array_kind, moves_kind, no_top, same_kind, slots_of, stack_below};
 ghost use Rattle.jvm_type_inference.specs.Joins as joins;
+ghost use Rattle.jvm_type_inference.specs.Parts as codes;
 
 use jvm_definition::{Kind, LocalKind};
 
@@ -118,8 +119,55 @@ pub fn has_room(stack: &[Kind], most: u16) -> bool
     true
 }
 
+#[inline(always)]
+fn code_of(kind: Kind) -> u8
+    ensures { result ≡ codes.code_of kind }
+{
+    kind as u8
+}
+
+#[inline(always)]
+#[tactic(auto, using(crate::proofs::StillLaws::same_code))]
+fn still_same(same: bool, kind: Kind, other: Kind) -> bool
+    ensures before { result ≡ true → same ≡ true }
+    ensures kinds { result ≡ true → kind ≡ other }
+{
+    same & (code_of(kind) == code_of(other))
+}
+
+// Whether types are the same. All of them are looked at, so that a processor can look at many at once.
+fn are_same(kinds: &[Kind], others: &[Kind]) -> bool
+    ensures { result ≡ true → kinds.now ≡ others.now }
+{
+    if kinds.len() != others.len() {
+        return false;
+    }
+    let mut same = true;
+    let mut rest = kinds;
+    let mut beside = others;
+    while let Some((kind, behind)) = rest.split_first() {
+        let Some((other, more)) = beside.split_first() else {
+            return false;
+        };
+        same = still_same(same, *kind, *other);
+        rest = behind;
+        beside = more;
+    }
+    same
+}
+
 /// Whether as many operands are below others.
+#[tactic(auto, using(crate::proofs::StillLaws::same_stack))]
 pub fn is_stack_below(stack: &[Kind], others: &[Kind]) -> bool
+    ensures { result ≡ stack_below stack.now others.now }
+{
+    if are_same(stack, others) {
+        return true;
+    }
+    is_each_below(stack, others)
+}
+
+fn is_each_below(stack: &[Kind], others: &[Kind]) -> bool
     ensures { result ≡ stack_below stack.now others.now }
 {
     let mut rest = stack;
@@ -138,7 +186,17 @@ pub fn is_stack_below(stack: &[Kind], others: &[Kind]) -> bool
 }
 
 /// Whether local variables are below others.
+#[tactic(auto, using(crate::proofs::StillLaws::same_locals_below))]
 pub fn are_locals_below(locals: &[Kind], others: &[Kind]) -> bool
+    ensures { result ≡ joins.locals_below locals.now others.now }
+{
+    if are_same(locals, others) {
+        return true;
+    }
+    is_each_local_below(locals, others)
+}
+
+fn is_each_local_below(locals: &[Kind], others: &[Kind]) -> bool
     ensures { result ≡ joins.locals_below locals.now others.now }
 {
     let mut rest = locals;

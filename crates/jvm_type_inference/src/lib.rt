@@ -15,6 +15,7 @@ mod kept_kinds;
 mod kind_list;
 mod kinds;
 mod locals;
+mod long_kinds;
 mod meet;
 mod meeting;
 mod method;

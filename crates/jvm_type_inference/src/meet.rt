@@ -55,22 +55,42 @@ fn joined_frame(alloc: Global, old: &Frame, frame: &Frame) -> Result<Meeting, Al
         ≡ false }
     ensures { IfOk result (IsMeeting (Some old.now) frame.now) }
 {
-    let Some(stack) = joined_stack(alloc, old.stack.as_slice(), frame.stack.as_slice())? else {
+    let Some(stack) = joined_stack(alloc, &old.stack, &frame.stack)? else {
         return Ok(Meeting::Refused);
     };
     let locals = joined_locals(alloc, old.locals.as_slice(), frame.locals.as_slice())?;
     Ok(Meeting::Changed(Frame { locals, stack }))
 }
 
+// The operands of a frame that is there, joined with those of one that flows to it.
+#[tactic(auto, using(crate::proofs::StillLaws::joined_still))]
 fn joined_stack(
+    alloc: Global,
+    stack: &KindList,
+    others: &KindList,
+) -> Result<Option<KindList>, AllocError>
+    ensures { IfOk result (λ o. o ≡ joins.joined_stacks stack.now others.now) }
+{
+    let kinds = stack.as_slice();
+    let others = others.as_slice();
+    if has_no_top(kinds) && is_stack_below(others, kinds) {
+        return Ok(Some(stack.copied(alloc)?));
+    }
+    match joined_kinds(alloc, kinds, others)? {
+        Some(joined) => Ok(Some(KindList::from_vec(alloc, joined)?)),
+        None => Ok(None),
+    }
+}
+
+fn joined_kinds(
     alloc: Global,
     stack: &[Kind],
     others: &[Kind],
-) -> Result<Option<KindList>, AllocError>
-    ensures { IfOk result (λ o. o
+) -> Result<Option<Vec<Kind>>, AllocError>
+    ensures { IfOk result (λ o. option_map (λ v. v.items) o
         ≡ joins.joined_stacks stack.now others.now) }
 {
-    let mut kinds = KindList::new();
+    let mut kinds = Vec::new(alloc);
     let mut rest = stack;
     let mut beside = others;
     while let Some((kind, behind)) = rest.split_first() {
@@ -81,7 +101,7 @@ fn joined_stack(
         if is_top(above) {
             return Ok(None);
         }
-        kinds.push(alloc, above)?;
+        kinds.push(above)?;
         rest = behind;
         beside = more;
     }

@@ -31,7 +31,7 @@ impl Working {
         ensures stack { IfOk result (λ w. w.stack ≡ frame.now.stack) }
     {
         let locals = Vec::from_slice(alloc, frame.locals.as_slice())?;
-        let stack = Operands::from_slice(alloc, frame.stack.as_slice())?;
+        let stack = Operands::of(alloc, &frame.stack)?;
         Ok(Working { locals, stack })
     }
 
@@ -42,7 +42,7 @@ impl Working {
     {
         let Working { locals, stack } = self;
         let locals = SharedKinds::new(alloc, locals)?;
-        let stack = stack.into_list(alloc)?;
+        let stack = stack.to_list(alloc)?;
         Ok(Frame { locals, stack })
     }
 

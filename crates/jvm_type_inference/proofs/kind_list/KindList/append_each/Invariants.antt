@@ -1,5 +1,5 @@
 use Rattle.std.proofs.Common.{◌≡◌, ◌++◌, length}
-use Rattle.jvm_type_inference.proofs.kind_list.KindList.append.Given as goal
+use Rattle.jvm_type_inference.proofs.kind_list.KindList.append_each.Given as goal
 
 abbrev pub invariant-loop-kind : goal.invariant-loop-kind
 invariant-loop-kind l = l.self ++ l.rest ≡ l.initial.self ++ l.kinds
