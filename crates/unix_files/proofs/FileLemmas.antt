@@ -1,6 +1,6 @@
--- Files written byte by byte.
-use Rattle.std.proofs.Common.{◌≡◌, ℕ, ◌+◌, ◌-◌, ◌<◌, ◌≤◌, List, [], ◌∷◌, ◌++◌, length, take, drop, replicate, set, refl, ap, sym, ◌∙◌, arith, append_assoc}
-use Rattle.std.proofs.lemmas.List.{get_or-set_same, length_push, length-take-le, set-set, drop-drop, replicate-append-replicate, length-append, length-replicate}
+-- Files written piece by piece.
+use Rattle.std.proofs.Common.{◌≡◌, ℕ, ◌+◌, ◌-◌, ◌<◌, ◌≤◌, List, [], ◌++◌, length, take, drop, replicate, set, refl, ap, sym, ◌∙◌, arith, append_assoc, append-nil}
+use Rattle.std.proofs.lemmas.List.{get_or-set_same, take_all, drop_all, length-take-le, set-set, drop-drop, replicate-append-replicate, length-append, length-replicate}
 use Rattle.std.proofs.Math.Seq.{take-append_seam, drop-append-add}
 use Rattle.unix_definition.specs.Files.{blocks_for}
 use Rattle.unix_files.specs.Stored.{Contents, file_at, with_file, overwritten}
@@ -22,23 +22,28 @@ stored-again c s t n a f within room before after =
     ∙ (ap (λ x. with_file x n (f (file_at x n))) before
     ∙ (ap (λ l. with_file (with_file c n a) n (f l)) (file_at-with_file c n a within) ∙ with_file-again c n a (f a) within room))
 
--- one more zero
-pub more-zeros : (file : List ℕ) (k m : ℕ) → k + 1 ≡ m → (file ++ replicate k 0) ++ 0 ∷ [] ≡ file ++ replicate m 0
-more-zeros file k m next =
+-- further zeros
+pub zeros-more : (file : List ℕ) (k m n : ℕ) → k + m ≡ n → (file ++ replicate k 0) ++ replicate m 0 ≡ file ++ replicate n 0
+zeros-more file k m n next =
     let z : ℕ = 0 in
-    append_assoc file (replicate k z) (replicate 1 z) ∙ (ap (λ l. file ++ l) (replicate-append-replicate k 1 z) ∙ ap (λ n. file ++ replicate n z) next)
+    append_assoc file (replicate k z) (replicate m z) ∙ (ap (λ l. file ++ l) (replicate-append-replicate k m z) ∙ ap (λ i. file ++ replicate i z) next)
+
+-- what is written behind the last byte
+pub overwritten-end : (file xs : List ℕ) → overwritten file (length file) xs ≡ file ++ xs
+overwritten-end file xs =
+    ap (λ l. l ++ xs ++ drop (length file + length xs) file) (take_all (length file) file (omega arith))
+    ∙ (ap (λ l. file ++ xs ++ l) (drop_all (length file + length xs) file (omega arith)) ∙ append-nil (file ++ xs))
 
 pub length-zeros_behind : (file : List ℕ) (k : ℕ) → length (file ++ replicate k 0) ≡ length file + k
 length-zeros_behind file k = let z : ℕ = 0 in length-append file (replicate k z) ∙ ap (λ n. length file + n) (length-replicate k z)
 
--- one more byte behind those that were written
-pub overwritten-more : (file xs : List ℕ) (place b : ℕ) → place ≤ length file → overwritten (overwritten file place xs) (place + length xs) (b ∷ []) ≡ overwritten file place (xs ++ b ∷ [])
-overwritten-more file xs place b within =
+-- further bytes behind those that were written
+pub overwritten-more : (file xs ys : List ℕ) (place : ℕ) → place ≤ length file → overwritten (overwritten file place xs) (place + length xs) ys ≡ overwritten file place (xs ++ ys)
+overwritten-more file xs ys place within =
     let front : List ℕ = take place file ++ xs in
     let behind : List ℕ = drop (place + length xs) file in
     let long : length front ≡ place + length xs = length-append (take place file) xs ∙ ap (λ n. n + length xs) (length-take-le place file within) in
-    let last : List ℕ = b ∷ [] in
-    ap (λ k. overwritten (front ++ behind) k last) (sym long)
-    ∙ (ap (λ l. l ++ last ++ drop (length front + 1) (front ++ behind)) (take-append_seam front behind)
-    ∙ (ap (λ l. front ++ last ++ l) (drop-append-add front behind 1 ∙ (drop-drop 1 (place + length xs) file ∙ ap (λ k. drop k file) (let e : place + length xs + 1 ≡ place + length (xs ++ last) = let p = length_push xs b in omega arith in e)))
-    ∙ ap (λ l. l ++ drop (place + length (xs ++ last)) file) (append_assoc (take place file) xs last)))
+    ap (λ k. overwritten (front ++ behind) k ys) (sym long)
+    ∙ (ap (λ l. l ++ ys ++ drop (length front + length ys) (front ++ behind)) (take-append_seam front behind)
+    ∙ (ap (λ l. front ++ ys ++ l) (drop-append-add front behind (length ys) ∙ (drop-drop (length ys) (place + length xs) file ∙ ap (λ k. drop k file) (let e : place + length xs + length ys ≡ place + length (xs ++ ys) = let p = length-append xs ys in omega arith in e)))
+    ∙ ap (λ l. l ++ drop (place + length (xs ++ ys)) file) (append_assoc (take place file) xs ys)))

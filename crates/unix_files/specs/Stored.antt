@@ -51,9 +51,9 @@ chain_at chains n = slice_index_or chains n empty_chain
 abbrev pub contents_of : Pool → List Chain → Contents
 contents_of p chains = record { files = map (file_bytes p) chains; free = free_count p }
 
--- the chain of one block with one byte
-abbrev pub begun : ℕ → Chain
-begun b = record { first = b; last = b; near = b; near_index = 0; size = 1 }
+-- the chain of one block
+abbrev pub begun : ℕ → ℕ → Chain
+begun b size = record { first = b; last = b; near = b; near_index = 0; size = size }
 
 -- the chain whose block of this number was looked up last
 abbrev pub looked_up : Pool → Chain → ℕ → Chain

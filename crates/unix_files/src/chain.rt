@@ -1,9 +1,9 @@
 //! The blocks of one file: each names the one that follows it.
 
-ghost use Rattle.std.specs.Prelude.{◌≡◌, ◌≢◌, ℕ, ◌+◌, ◌<◌, ◌≤◌, ◌%◌, ◌*◌, ◌++◌, ◌∷◌, [], take, IfOk};
+ghost use Rattle.std.specs.Prelude.{◌≡◌, ◌≢◌, ℕ, ◌+◌, ◌<◌, ◌≤◌, ◌-◌, ◌%◌, ◌*◌, length, take, IfOk};
 ghost use Rattle.unix_definition.specs.Files.{blocks_for};
 ghost use Rattle.block_pool.specs.Blocks.{IsUsed, IsSound, block_at, free_count};
-ghost use Rattle.unix_files.specs.Stored.{empty_chain, blocks_in, block_after, looked_up, file_bytes, IsChain, Changes, begun};
+ghost use Rattle.unix_files.specs.Stored.{empty_chain, blocks_in, block_after, looked_up, file_bytes, IsChain, Changes, begun, overwritten};
 
 use block_pool::Blocks;
 use std::alloc::{AllocError, Global};
@@ -108,55 +108,72 @@ fn walk(pool: &Blocks, from: u32, steps: u32) -> u32
     block
 }
 
-/// A chain of one block, which is the file's first, with one byte.
-fn begun(block: u32) -> Chain
-    ensures { result ≡ begun block }
+/// A chain of one block, which is the file's first.
+fn begun(block: u32, size: u32) -> Chain
+    ensures { result ≡ begun block size }
 {
     Chain {
         first: block,
         last: block,
         near: block,
         near_index: 0,
-        size: 1,
+        size,
     }
 }
 
-/// The chain with one more byte.
-pub(crate) fn appended(pool: &mut Blocks, chain: Chain, v: u8) -> Chain
+/// The chain with bytes written from a place on: over those that are there, and after the last one. All of them are in one
+/// block.
+pub(crate) fn written(pool: &mut Blocks, chain: Chain, at: u32, bytes: &[u8]) -> Chain
     requires sound { IsSound pool.old }
     requires whole { IsChain pool.old chain }
-    requires small { chain.size < 0x7FFFFFFF }
-    requires room { blocks_for (chain.size + 1) ≤ blocks_for chain.size + free_count pool.old }
+    requires within { at ≤ chain.size }
+    requires some { 0 < length bytes.now }
+    requires one { at % 4096 + length bytes.now ≤ 4096 }
+    requires small { at + length bytes.now ≤ 0x7FFFFFFF }
+    requires room { blocks_for (at + length bytes.now) ≤ blocks_for chain.size + free_count pool.old }
     ensures changes { Changes pool.old pool.new chain result }
-    ensures bytes { file_bytes pool.new result ≡ file_bytes pool.old chain ++ v ∷ [] }
+    ensures bytes { file_bytes pool.new result
+        ≡ overwritten (file_bytes pool.old chain) at bytes.now }
 {
-    if chain.size % BLOCK == 0 {
-        with_block(pool, chain, v)
-    } else {
-        pool.write(chain.last, chain.size % BLOCK, v);
+    let index = at / BLOCK;
+    if index < blocks_for(chain.size) {
+        let found = chain.at(pool, index);
+        pool.copy_in(found.near, at % BLOCK, bytes);
         Chain {
-            size: chain.size + 1,
-            ..chain
+            size: greater(chain.size, at + bytes.len() as u32),
+            ..found
         }
+    } else {
+        with_block(pool, chain, bytes)
     }
 }
 
-/// The chain, whose blocks are full, with one more block and a byte in it.
-fn with_block(pool: &mut Blocks, chain: Chain, v: u8) -> Chain
+/// The greater of two sizes.
+fn greater(size: u32, end: u32) -> u32
+    ensures { result ≡ size + (end - size) }
+{
+    if size < end { end } else { size }
+}
+
+/// The chain, whose blocks are full, with one more block, which begins with these bytes.
+fn with_block(pool: &mut Blocks, chain: Chain, bytes: &[u8]) -> Chain
     requires sound { IsSound pool.old }
     requires whole { IsChain pool.old chain }
-    requires small { chain.size < 0x7FFFFFFF }
+    requires some { 0 < length bytes.now }
+    requires one { length bytes.now ≤ 4096 }
+    requires small { chain.size + length bytes.now ≤ 0x7FFFFFFF }
     requires full { chain.size % 4096 ≡ 0 }
     requires room { 1 ≤ free_count pool.old }
     ensures changes { Changes pool.old pool.new chain result }
-    ensures bytes { file_bytes pool.new result ≡ file_bytes pool.old chain ++ v ∷ [] }
+    ensures bytes { file_bytes pool.new result
+        ≡ overwritten (file_bytes pool.old chain) chain.size bytes.now }
 {
     let Ok(block) = pool.take() else {
         unreachable!()
     };
-    pool.write(block, 0, v);
+    pool.copy_in(block, 0, bytes);
     if chain.size == 0 {
-        return begun(block);
+        return begun(block, bytes.len() as u32);
     }
     pool.set_next(chain.last, Some(block));
     Chain {
@@ -164,7 +181,7 @@ fn with_block(pool: &mut Blocks, chain: Chain, v: u8) -> Chain
         last: block,
         near: block,
         near_index: chain.size / BLOCK,
-        size: chain.size + 1,
+        size: chain.size + bytes.len() as u32,
     }
 }
 

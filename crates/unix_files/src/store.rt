@@ -1,8 +1,8 @@
-ghost use Rattle.std.specs.Prelude.{◌≡◌, ◌<◌, ◌≤◌, ◌+◌, ◌-◌, ◌++◌, ◌∷◌, [], length, take, replicate, IfOk, vec_len, slice_index, slice_set};
+ghost use Rattle.std.specs.Prelude.{◌≡◌, ◌<◌, ◌≤◌, ◌+◌, ◌-◌, ◌++◌, ◌%◌, [], length, take, replicate, IfOk, vec_len, slice_index};
 ghost use Rattle.unix_definition.specs.Files.{blocks_for};
 ghost use Rattle.unix_files.specs.Stored.{file_at, with_file, chain_at, overwritten};
 
-use crate::chain::{BLOCK, Chain, appended, shortened};
+use crate::chain::{BLOCK, Chain, shortened, written};
 use block_pool::Blocks;
 use std::alloc::{AllocError, Global};
 use std::marker::Model;
@@ -77,27 +77,19 @@ impl Store {
         chain_of(&self.chains, n).bytes(&self.pool, alloc)
     }
 
-    /// Writes the byte of a file at a place.
-    pub fn put(&mut self, n: usize, at: u32, v: u8)
+    /// Writes bytes over those of a file from a place on, and after the last one. All of them are in one block.
+    fn put(&mut self, n: usize, at: u32, bytes: &[u8])
         requires file { n < length self.old.files }
-        requires within { at < length (file_at self.old n) }
-        ensures { self.new ≡ with_file self.old n (slice_set (file_at self.old n) at v) }
-    {
-        let chain = chain_of(&self.chains, n).at(&self.pool, at / BLOCK);
-        self.chains[n] = chain;
-        self.pool.write(chain.near, at % BLOCK, v);
-    }
-
-    /// Puts a byte after the others of a file, for which there is room.
-    pub fn push(&mut self, n: usize, v: u8)
-        requires file { n < length self.old.files }
-        requires small { length (file_at self.old n) < 0x7FFFFFFF }
-        requires room { blocks_for (length (file_at self.old n) + 1)
+        requires within { at ≤ length (file_at self.old n) }
+        requires some { 0 < length bytes.now }
+        requires one { at % 4096 + length bytes.now ≤ 4096 }
+        requires small { at + length bytes.now ≤ 0x7FFFFFFF }
+        requires room { blocks_for (at + length bytes.now)
             ≤ blocks_for (length (file_at self.old n)) + self.old.free }
-        ensures { self.new ≡ with_file self.old n (file_at self.old n ++ v ∷ []) }
+        ensures { self.new ≡ with_file self.old n (overwritten (file_at self.old n) at bytes.now) }
     {
         let chain = chain_of(&self.chains, n);
-        self.chains[n] = appended(&mut self.pool, chain, v);
+        self.chains[n] = written(&mut self.pool, chain, at, bytes);
     }
 
     /// Takes the bytes of a file away from a place on.
@@ -118,25 +110,28 @@ impl Store {
         ensures { self.new ≡ with_file self.old n (file_at self.old n
             ++ replicate (size - length (file_at self.old n)) 0) }
     {
-        for _ in self.size(n)..size {
-            self.push(n, 0);
+        let mut end = self.size(n);
+        while end < size {
+            let count = in_block(end, (size - end) as usize);
+            self.push_zeros(n, count);
+            end += count as u32;
         }
     }
 
-    /// Writes a byte over the one at a place, or after the last one.
-    fn write_byte(&mut self, n: usize, at: u32, v: u8)
+    /// Puts so many zeros after the bytes of a file, all in one block.
+    fn push_zeros(&mut self, n: usize, count: usize)
         requires file { n < length self.old.files }
-        requires within { at ≤ length (file_at self.old n) }
-        requires small { at < 0x7FFFFFFF }
-        requires room { blocks_for (at + 1) ≤ blocks_for (length (file_at self.old n))
-            + self.old.free }
-        ensures { self.new ≡ with_file self.old n (overwritten (file_at self.old n) at (v ∷ [])) }
+        requires some { 0 < count }
+        requires one { length (file_at self.old n) % 4096 + count ≤ 4096 }
+        requires small { length (file_at self.old n) + count ≤ 0x7FFFFFFF }
+        requires room { blocks_for (length (file_at self.old n) + count)
+            ≤ blocks_for (length (file_at self.old n)) + self.old.free }
+        ensures { self.new ≡ with_file self.old n (file_at self.old n ++ replicate count 0) }
     {
-        if at < self.size(n) {
-            self.put(n, at, v);
-        } else {
-            self.push(n, v);
-        }
+        let end = self.size(n);
+        let zeros = [0; 4096];
+        let (here, _) = zeros.split_at(count);
+        self.put(n, end, here);
     }
 
     /// Writes bytes over those of a file from a place on, and after the last one where they go past it.
@@ -149,10 +144,24 @@ impl Store {
         ensures { self.new
             ≡ with_file self.old n (overwritten (file_at self.old n) place bytes.now) }
     {
-        for (i, b) in bytes.iter().enumerate() {
-            self.write_byte(n, place + i as u32, *b);
+        let mut done = 0;
+        while done < bytes.len() {
+            let at = place + done as u32;
+            let count = in_block(at, bytes.len() - done);
+            self.put(n, at, &bytes[done..done + count]);
+            done += count;
         }
     }
+}
+
+/// How many of so many bytes from a place on are in its block.
+fn in_block(at: u32, bytes: usize) -> usize
+    ensures some { 0 < bytes → 0 < result }
+    ensures within { result ≤ bytes }
+    ensures one { at % 4096 + result ≤ 4096 }
+{
+    let room = (BLOCK - at % BLOCK) as usize;
+    if bytes < room { bytes } else { room }
 }
 
 fn chain_of(chains: &Vec<Chain>, n: usize) -> Chain
