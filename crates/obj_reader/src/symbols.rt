@@ -1,6 +1,7 @@
 //! The symbol table of an object and its checks (System V ABI, "Symbol Table").
 ghost use Rattle.std.specs.Prelude.{◌≡◌, ℕ, ◌+◌, ◌*◌, ◌^◌, ◌<◌, ◌≤◌, IfErr, IfOk, OnOk, None, Some, [], if◌then◌else◌, length, option_map};
 ghost use Rattle.std.specs.List.{find};
+ghost use Rattle.obj_reader.specs.Ended.{EndsWithin, is_wrong_within};
 ghost use Rattle.obj_reader.specs.Fault.{IsAnswer};
 ghost use Rattle.obj_reader.specs.Sections.{sections_of, is_section_outside, string_table, strings_of_table, symbol_table};
 ghost use Rattle.obj_reader.specs.Symbols as spec;
@@ -126,29 +127,35 @@ fn bytes_in<'a>(b: &'a [u8], s: &Section) -> &'a [u8]
 fn first_wrong(strings: &[u8], count: usize, symbols: &[Symbol]) -> Option<u32>
     ensures { result ≡ spec.first_wrong strings.now count symbols.now }
 {
+    let ended = ended_len(strings);
     symbols
         .iter()
-        .find(|s| is_wrong(strings, count, s))
+        .find(|s| is_wrong(ended, count, s))
         .map(|s| s.number)
 }
 
-/// Whether a symbol's name does not end, its binding is not known, or its section is not there.
-fn is_wrong(strings: &[u8], count: usize, s: &Symbol) -> bool
-    ensures { result ≡ spec.is_wrong_symbol strings.now count s.now }
+/// Whether a symbol's name does not end, its binding is not known, or its section is not there. Names end that begin before a
+/// place.
+fn is_wrong(ended: usize, count: usize, s: &Symbol) -> bool
+    ensures { result ≡ is_wrong_within ended count s.now }
 {
-    !is_ended(strings, s.st_name as usize)
+    s.st_name as usize >= ended
         || s.binding() > STB_WEAK
         || s.st_shndx < SHN_LORESERVE && s.st_shndx as usize >= count
 }
 
-/// Whether a name begins at a place, and ends.
-fn is_ended(strings: &[u8], at: usize) -> bool
-    ensures { result ≡ spec.is_ended strings.now at }
+/// The length up to the last 00: names that begin before it end.
+fn ended_len(strings: &[u8]) -> usize
+    ensures { EndsWithin strings.now result }
 {
-    match strings.get(at..) {
-        Some(rest) => rest.contains(&0),
-        None => false,
+    let mut rest = strings;
+    while let Some((byte, before)) = rest.split_last() {
+        if *byte == 0 {
+            return rest.len();
+        }
+        rest = before;
     }
+    0
 }
 
 /// The number of the first common symbol.
