@@ -10,9 +10,10 @@ use Rattle.mips_definition.specs.Memory as memory
 use Rattle.elf_definition.specs.declared.segment.Segment.{Segment}
 use Rattle.elf_definition.specs.Header.{order_of}
 use Rattle.elf_definition.specs.Segments.{live}
-use Rattle.elf_definition.specs.Content.{stored_code_word, is_in_file_part, stored_byte, stored_word}
+use Rattle.elf_definition.specs.Content.{stored_code_word, is_in_file, stored_byte, stored_word}
 use Rattle.elf_definition.specs.FileFields.{words}
-use Rattle.mips_asm.specs.File.{Segment as Content, IsFileOf, whole_segment}
+use Rattle.elf_definition.specs.Parts.{PartSegment as Content}
+use Rattle.mips_asm.specs.File.{IsFileOf, whole_segment}
 use Rattle.mips_asm_laws.specs.Reading.{contents_in, with_memory}
 use Rattle.mips_asm_laws.proofs.Areas.{text_at, text_live}
 use Rattle.mips_asm_laws.proofs.Checks.{live_are}
@@ -63,7 +64,7 @@ words_lane (w ∷ ws) (suc k) i lane lt =
 stored_at : (file : List ℕ) (n at j : ℕ) → at ≡ 0x00400000 + j → j < n → stored_byte file (text_segment n ∷ []) at ≡ slice_index file (84 + j)
 unfolding stored_byte
 stored_at file n at j is lt =
-    let inside : is_in_file_part at (text_segment n) ≡ true = grind (arith, nat_tests) in
+    let inside : is_in_file at (text_segment n) ≡ true = grind (arith, nat_tests) in
     rw inside (ap (slice_index file) (omega (arith, is)))
 
 module _ (ws file : List ℕ) (is : IsFileOf (words ws) [] file) (short : length (words ws) ≤ 4194304) (size : length (words ws) ≡ 4 * length ws) where

@@ -2,7 +2,8 @@
 ghost use Rattle.std.specs.Prelude.{◌≡◌, ◌≤◌, [], IfOk, length};
 ghost use Rattle.elf_definition.specs.FileFields.{words};
 ghost use Rattle.elf_writer.specs.Limits.{IsWritable};
-ghost use Rattle.mips_asm.specs.File.{IsFileOf, IsProgram, segment_of, whole_segment};
+ghost use Rattle.elf_definition.specs.Parts.{part_segment};
+ghost use Rattle.mips_asm.specs.File.{IsFileOf, IsProgram, whole_segment};
 ghost use Rattle.command_translate.specs.MadeWords.{made_words};
 
 use crate::made_words::made_text;
@@ -44,7 +45,7 @@ fn text_alone(alloc: Global, text: Vec<u8>) -> Result<Parts, AllocError>
 /// The segment of these bytes.
 fn text_part(bytes: Vec<u8>) -> Part
     requires { length bytes.items ≤ 4194304 }
-    ensures { segment_of result ≡ whole_segment 0x00400000 5 bytes.items }
+    ensures { part_segment result ≡ whole_segment 0x00400000 5 bytes.items }
 {
     Part {
         vaddr: TEXT,

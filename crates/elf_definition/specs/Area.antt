@@ -16,10 +16,7 @@ section_range s = record { first = s.sh_addr; words = s.sh_size / 4 }
 
 -- the words of a segment's bytes in the file, from its start rounded up to its end rounded down
 abbrev pub segment_range : Segment → Range
-segment_range s = record {
-  first = (s.vaddr + 3) / 4 * 4;
-  words = file_end s / 4 - (s.vaddr + 3) / 4;
-}
+segment_range s = record { first = (s.vaddr + 3) / 4 * 4; words = file_end s / 4 - (s.vaddr + 3) / 4 }
 
 -- the words of each code section, or, without sections, of each executable segment
 abbrev pub ranges_of : Bool → List SectionHeader → List Segment → List Range
@@ -61,13 +58,13 @@ is_shared_page ranges segments page =
     list_any (range_is_on_page page) ranges && list_any (data_is_on_page page) segments
 
 -- the number of pages that addresses of 32 bits have
-abbrev pub page_count : ℕ
-page_count = 2 ^ 20
+abbrev pub address_pages : ℕ
+address_pages = 2 ^ 20
 
 -- the checks of the code area, beside the live segments: it is not empty, and no page of it can be written
 unfoldable pub area_fault : List Range → List Segment → Option ElfFault
 area_fault ranges segments =
     first_fault
     (fails 21 (list_all (λ r. r.words == 0) ranges)
-    ∷ fails_at 22 (least_below (is_shared_page ranges segments) page_count)
+    ∷ fails_at 22 (least_below (is_shared_page ranges segments) address_pages)
     ∷ [])

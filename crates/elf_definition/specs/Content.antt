@@ -10,8 +10,8 @@ use Rattle.run_definition.specs.Words.{word_of_bytes}
 use Rattle.mips_definition.specs.Memory.{word_of_lanes}
 
 -- an address is one of a segment's bytes in the file
-abbrev pub is_in_file_part : ℕ → Segment → Bool
-is_in_file_part at s = nat_le s.vaddr at && nat_lt at (file_end s)
+abbrev pub is_in_file : ℕ → Segment → Bool
+is_in_file at s = nat_le s.vaddr at && nat_lt at (file_end s)
 
 -- the file's byte that a segment puts at an address
 abbrev pub file_byte : List ℕ → ℕ → Segment → ℕ
@@ -19,16 +19,13 @@ file_byte file at s = slice_index file (s.offset + (at - s.vaddr))
 
 -- the byte at an address of the segments: the file's where one's bytes in the file reach, else 0
 unfoldable pub stored_byte : List ℕ → List Segment → ℕ → ℕ
-stored_byte file segments at =
-    option_map_or (file_byte file at) (find (is_in_file_part at) segments) 0
+stored_byte file segments at = option_map_or (file_byte file at) (find (is_in_file at) segments) 0
 
 -- the word at an address as a page keeps it: its lanes are the bytes, lane 0 (the most significant byte) the one of the lowest
 -- address, whatever the file's order is
 unfoldable pub stored_word : List ℕ → List Segment → ℕ → ℕ
-stored_word file segments at =
-    word_of_bytes
-    (stored_byte file segments at) (stored_byte file segments (at + 1))
-    (stored_byte file segments (at + 2)) (stored_byte file segments (at + 3))
+stored_word file segments at = let byte = stored_byte file segments in
+    word_of_bytes (byte at) (byte (at + 1)) (byte (at + 2)) (byte (at + 3))
 
 -- the instruction word at an address of the code, which has the file's order
 unfoldable pub stored_code_word : List ℕ → List Segment → ℕ → ℕ
@@ -43,5 +40,5 @@ is_filled_page file segments page =
 -- a page holds a byte of a segment's bytes in the file that is not 0
 unfoldable pub has_data : List ℕ → ℕ → Segment → Bool
 has_data file page s =
-    is_some (least_below (λ k. is_in_file_part (4096 * page + k) s
+    is_some (least_below (λ k. is_in_file (4096 * page + k) s
     && not (file_byte file (4096 * page + k) s == 0)) 4096)

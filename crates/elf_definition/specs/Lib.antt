@@ -10,5 +10,6 @@ pub mod Area
 pub mod Fault
 pub mod FileFields
 pub mod FilePlaces
+pub mod Parts
 pub mod File
 pub mod Loading

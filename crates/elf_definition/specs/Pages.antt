@@ -2,6 +2,7 @@
 use Rattle.std.specs.Prelude.{ℕ, zero, suc, ◌+◌, ◌-◌, ◌*◌, ◌/◌, ◌^◌, Bool, ◌&&◌, ◌||◌, ◌==◌, nat_lt, nat_le, max, if◌then◌else◌, List, fold}
 use Rattle.std.specs.List.{list_any}
 use Rattle.elf_definition.specs.declared.segment.Segment.{Segment}
+use Rattle.mips_definition.specs.State.{argument_page}
 use Rattle.elf_definition.specs.Check.{meet}
 use Rattle.elf_definition.specs.Segments.{segment_end, is_writable}
 
@@ -26,53 +27,39 @@ is_segment_page segments page = list_any (is_on_page page) segments
 unfoldable pub is_data_page : List Segment → ℕ → Bool
 is_data_page segments page = list_any (λ s. is_writable s && is_on_page page s) segments
 
--- the first page behind a segment
-abbrev pub page_behind : Segment → ℕ
-page_behind s = (segment_end s + 4095) / 4096
-
 -- the heap begins at the first page past the highest segment
 unfoldable pub heap_page : List Segment → ℕ
-heap_page segments = fold (λ page s. max page (page_behind s)) 0 segments
-
--- the argument page is the last one, and the stack ends where it begins
-abbrev pub argument_page_number : ℕ
-argument_page_number = 0x7ffff
+heap_page segments = fold (λ page s. max page ((segment_end s + 4095) / 4096)) 0 segments
 
 abbrev pub is_heap_page : List Segment → ℕ → ℕ → Bool
 is_heap_page segments heap page = nat_le (heap_page segments) page
     && nat_lt page (heap_page segments + heap)
 
+-- the stack ends where the argument page begins, which is the last one
 abbrev pub is_stack_page : ℕ → ℕ → Bool
-is_stack_page stack page = nat_le (argument_page_number - stack) page && nat_lt page argument_page_number
-
-abbrev pub is_argument_page : ℕ → Bool
-is_argument_page page = page == argument_page_number
+is_stack_page stack n = nat_le (argument_page / 4096 - stack) n && nat_lt n (argument_page / 4096)
 
 -- a page can be read where a segment, the heap, the stack or the argument page covers it
 unfoldable pub is_readable_page : List Segment → ℕ → ℕ → ℕ → Bool
-is_readable_page segments heap stack page =
-    is_segment_page segments page || is_heap_page segments heap page || is_stack_page stack page
-    || is_argument_page page
+is_readable_page segments heap stack page = is_segment_page segments page
+    || is_heap_page segments heap page || is_stack_page stack page || page == argument_page / 4096
 
 -- a page can be written where a writable segment, the heap, the stack or the argument page covers it
 unfoldable pub is_writable_page : List Segment → ℕ → ℕ → ℕ → Bool
-is_writable_page segments heap stack page =
-    is_data_page segments page || is_heap_page segments heap page || is_stack_page stack page
-    || is_argument_page page
+is_writable_page segments heap stack page = is_data_page segments page
+    || is_heap_page segments heap page || is_stack_page stack page || page == argument_page / 4096
 
 -- a page belongs to two of segments, heap, stack and argument page
 unfoldable pub is_shared : List Segment → ℕ → ℕ → ℕ → Bool
 is_shared segments heap stack page =
     (is_segment_page segments page
     && (is_heap_page segments heap page || is_stack_page stack page
-    || is_argument_page page))
-    || (is_heap_page segments heap page && (is_stack_page stack page || is_argument_page page))
-    || (is_stack_page stack page && is_argument_page page)
+    || page == argument_page / 4096))
+    || (is_heap_page segments heap page
+    && (is_stack_page stack page || page == argument_page / 4096))
+    || (is_stack_page stack page && page == argument_page / 4096)
 
--- the pages of the segments, each counted once
-abbrev pub segment_pages : List Segment → ℕ
-segment_pages segments = count_below (is_segment_page segments) pages_below
-
--- the pages of segments, heap, stack and argument page
+-- the pages of segments, each counted once, and of heap, stack and argument page
 unfoldable pub mapped_pages : List Segment → ℕ → ℕ → ℕ
-mapped_pages segments heap stack = segment_pages segments + heap + stack + 1
+mapped_pages segments heap stack =
+    count_below (is_segment_page segments) pages_below + heap + stack + 1

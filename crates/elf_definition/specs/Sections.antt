@@ -24,8 +24,7 @@ section_header file i = let at = (header_of file).e_shoff + 40 * i in record {
 
 -- the section header table, if there is one
 unfoldable pub section_headers : List ℕ → List SectionHeader
-section_headers file =
-    let header = header_of file in
+section_headers file = let header = header_of file in
     if has_sections header then map (section_header file) (range_with_len 0 header.e_shnum) else []
 
 -- a code section: SHT_PROGBITS with SHF_ALLOC and SHF_EXECINSTR, and not empty

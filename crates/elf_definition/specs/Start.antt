@@ -28,8 +28,7 @@ pub record Source : Type 0 where
 
 -- the byte at an address that can be read
 unfoldable pub start_byte : Source → ℕ → Option ℕ
-start_byte s at =
-    if is_readable_page (live s.file) s.heap s.stack (at / 4096)
+start_byte s at = if is_readable_page (live s.file) s.heap s.stack (at / 4096)
     then Some (stored_byte s.file (live s.file) at) else None
 
 -- the word at a multiple of 4 in the code area

@@ -1,5 +1,5 @@
 -- The pages and the code of an image end below 80000000 (hexadecimal).
-use Rattle.std.proofs.Common.{◌≡◌, ℕ, ◌+◌, ◌-◌, ◌*◌, ◌^◌, ◌<◌, ◌≤◌, Bool, true, false, ◌&&◌, ◌||◌, ◌==◌, nat_lt, nat_le, List, [], ◌∷◌, length, get_or, Option, Some, None, refl, sym, subst, inl, inr, arith}
+use Rattle.std.proofs.Common.{◌≡◌, ℕ, ◌+◌, ◌-◌, ◌*◌, ◌^◌, ◌<◌, ◌≤◌, Bool, true, false, ◌&&◌, ◌||◌, ◌==◌, nat_lt, nat_le, List, [], ◌∷◌, length, get_or, Option, Some, None, refl, sym, subst, inl, inr, arith, ◌/◌}
 use Rattle.std.specs.Prelude.{max, min}
 use Rattle.std.specs.List.{All}
 use Rattle.std.specs.Option.{option_or}
@@ -16,7 +16,8 @@ use Rattle.elf_definition.specs.Area.{area, area_fault, code_ranges, is_in_text}
 use Rattle.elf_definition.specs.Fault.{elf_fault}
 use Rattle.elf_reader.specs.Answer.{IsSound}
 use Rattle.elf_reader.proofs.PassedLemmas.{area_text, text_low}
-use Rattle.elf_definition.specs.Pages.{heap_page, is_on_page, is_segment_page, is_heap_page, is_stack_page, is_argument_page, is_readable_page}
+use Rattle.mips_definition.specs.State.{argument_page}
+use Rattle.elf_definition.specs.Pages.{heap_page, is_on_page, is_segment_page, is_heap_page, is_stack_page, is_readable_page}
 
 -- ---- the pages end low
 
@@ -37,7 +38,7 @@ pub pages_end : (segments : List Segment) (heap stack : ℕ) → All (λ (s : Se
     → (page : ℕ) → 524288 ≤ page → is_readable_page segments heap stack page ≡ false
 unfolding is_readable_page
 pages_end segments heap stack low ends page high =
-    three (is_segment_page segments page) (is_heap_page segments heap page) (is_stack_page stack page) (is_argument_page page)
+    three (is_segment_page segments page) (is_heap_page segments heap page) (is_stack_page stack page) (page == argument_page / 4096)
     (segments_end segments low page high) (others_end (heap_page segments) heap stack page ends high)
   where
     three : (a b c d : Bool) → a ≡ false → (b || (c || d)) ≡ false → (a || b || c || d) ≡ false

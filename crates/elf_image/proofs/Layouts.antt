@@ -1,26 +1,28 @@
 -- Which pages lie behind segments and heap.
-use Rattle.std.proofs.Common.{◌≡◌, ℕ, suc, zero, ◌+◌, ◌-◌, ◌<◌, ◌≤◌, Bool, true, false, ◌&&◌, ◌||◌, ◌==◌, nat_lt, nat_le, max, List, [], ◌∷◌, length, get_or, refl, arith}
+use Rattle.std.proofs.Common.{◌≡◌, ℕ, suc, zero, ◌+◌, ◌-◌, ◌<◌, ◌≤◌, Bool, true, false, ◌&&◌, ◌||◌, ◌==◌, nat_lt, nat_le, max, List, [], ◌∷◌, length, get_or, refl, arith, ◌/◌}
 use Rattle.std.specs.List.{All, fold}
 use Rattle.std.proofs.lemmas.Bool.Decides.{nat_tests}
 use Rattle.elf_definition.specs.declared.segment.Segment.{Segment}
-use Rattle.elf_definition.specs.Pages.{page_behind, heap_page, is_segment_page, is_heap_page, is_stack_page, is_argument_page, is_readable_page, is_shared}
+use Rattle.elf_definition.specs.Segments.{segment_end}
+use Rattle.mips_definition.specs.State.{argument_page}
+use Rattle.elf_definition.specs.Pages.{heap_page, is_segment_page, is_heap_page, is_stack_page, is_readable_page, is_shared}
 
 -- ---- the first page past the highest segment
 
 later : ℕ → Segment → ℕ
-later page s = max page (page_behind s)
+later page s = max page ((segment_end s + 4095) / 4096)
 
-no_sooner : (page : ℕ) (segments : List Segment) → page ≤ fold (λ page s. max page (page_behind s)) page segments
+no_sooner : (page : ℕ) (segments : List Segment) → page ≤ fold (λ page s. max page ((segment_end s + 4095) / 4096)) page segments
 no_sooner page [] = omega arith
-no_sooner page (s ∷ rest) = let more = no_sooner (max page (page_behind s)) rest in grind (arith)
+no_sooner page (s ∷ rest) = let more = no_sooner (max page ((segment_end s + 4095) / 4096)) rest in grind (arith)
 
 each_behind : (page : ℕ) (segments : List Segment) (k : ℕ) (d : Segment) → k < length segments
-    → page_behind (get_or segments k d) ≤ fold (λ page s. max page (page_behind s)) page segments
+    → (segment_end (get_or segments k d) + 4095) / 4096 ≤ fold (λ page s. max page ((segment_end s + 4095) / 4096)) page segments
 each_behind page [] k d within = absurd (omega (arith, within))
-each_behind page (s ∷ rest) zero d within = let more = no_sooner (max page (page_behind s)) rest in grind (arith)
-each_behind page (s ∷ rest) (suc k) d within = each_behind (max page (page_behind s)) rest k d (omega (arith, within))
+each_behind page (s ∷ rest) zero d within = let more = no_sooner (max page ((segment_end s + 4095) / 4096)) rest in grind (arith)
+each_behind page (s ∷ rest) (suc k) d within = each_behind (max page ((segment_end s + 4095) / 4096)) rest k d (omega (arith, within))
 
-pub all_behind : (segments : List Segment) → All (λ s. page_behind s ≤ heap_page segments) segments
+pub all_behind : (segments : List Segment) → All (λ s. (segment_end s + 4095) / 4096 ≤ heap_page segments) segments
 unfolding heap_page
 all_behind segments = each_behind 0 segments
 
@@ -34,7 +36,7 @@ pub unused : (segments : List Segment) (heap stack page : ℕ) → is_segment_pa
     → is_readable_page segments heap stack page ≡ false
 unfolding is_readable_page
 unused segments heap stack page none past before =
-    both (is_segment_page segments page) (is_heap_page segments heap page) (is_stack_page stack page) (is_argument_page page)
+    both (is_segment_page segments page) (is_heap_page segments heap page) (is_stack_page stack page) (page == argument_page / 4096)
     none (others (heap_page segments) heap stack page past before)
   where
     both : (a b c d : Bool) → a ≡ false → (b || (c || d)) ≡ false → (a || b || c || d) ≡ false
@@ -48,7 +50,7 @@ unused segments heap stack page none past before =
 pub unused_unshared : (segments : List Segment) (heap stack page : ℕ) → is_readable_page segments heap stack page ≡ false → is_shared segments heap stack page ≡ false
 unfolding is_readable_page is_shared
 unused_unshared segments heap stack page none =
-    by_tests (is_segment_page segments page) (is_heap_page segments heap page) (is_stack_page stack page) (is_argument_page page) none
+    by_tests (is_segment_page segments page) (is_heap_page segments heap page) (is_stack_page stack page) (page == argument_page / 4096) none
   where
     by_tests : (s h t a : Bool) → (s || h || t || a) ≡ false → ((s && (h || t || a)) || (h && (t || a)) || (t && a)) ≡ false
     by_tests false false false a e = refl

@@ -1,11 +1,12 @@
 -- Where no page is for two things, the pages that are mapped are those that can be read, each counted once.
-use Rattle.std.proofs.Common.{◌≡◌, ℕ, zero, suc, ◌+◌, ◌-◌, ◌<◌, ◌≤◌, Bool, true, false, ◌&&◌, ◌||◌, ◌==◌, nat_lt, nat_le, cond, min, List, Option, Some, None, option_map, refl, sym, ◌∙◌, inl, inr, arith}
+use Rattle.std.proofs.Common.{◌≡◌, ℕ, zero, suc, ◌+◌, ◌-◌, ◌<◌, ◌≤◌, Bool, true, false, ◌&&◌, ◌||◌, ◌==◌, nat_lt, nat_le, cond, min, List, Option, Some, None, option_map, refl, sym, ◌∙◌, inl, inr, arith, ◌/◌}
 use Rattle.std.proofs.lemmas.Bool.{cases_Bool, cases_lt, or_parts}
 use Rattle.std.proofs.lemmas.Bool.Decides.{nat_tests}
 use Rattle.elf_definition.specs.declared.segment.Segment.{Segment}
 use Rattle.elf_definition.specs.Check.{least_below}
 use Rattle.elf_definition.specs.declared.image_fault.ImageFault.{ImageFault}
-use Rattle.elf_definition.specs.Pages.{pages_below, count_below, heap_page, is_segment_page, is_heap_page, is_stack_page, is_argument_page, is_readable_page, is_shared, segment_pages, mapped_pages}
+use Rattle.mips_definition.specs.State.{argument_page}
+use Rattle.elf_definition.specs.Pages.{pages_below, count_below, heap_page, is_segment_page, is_heap_page, is_stack_page, is_readable_page, is_shared, mapped_pages}
 use Rattle.elf_definition.specs.ImageFault.{layout_fault}
 use Rattle.elf_image.proofs.TableLemmas.{least_all}
 use Rattle.elf_image.proofs.MarkLemmas.{count_same_tests}
@@ -76,11 +77,11 @@ none_of false true k a p q r =
 none_of false false k a p q r = (r, refl, refl)
 
 parts : (segments : List Segment) (heap stack p : ℕ) → is_shared segments heap stack p ≡ false
-    → (((is_segment_page segments p || is_heap_page segments heap p || is_stack_page stack p) && is_argument_page p) ≡ false)
+    → (((is_segment_page segments p || is_heap_page segments heap p || is_stack_page stack p) && (p == argument_page / 4096)) ≡ false)
     × (((is_segment_page segments p || is_heap_page segments heap p) && is_stack_page stack p) ≡ false)
     × ((is_segment_page segments p && is_heap_page segments heap p) ≡ false)
 unfolding is_shared
-parts segments heap stack p off = go (is_segment_page segments p) (is_heap_page segments heap p) (is_stack_page stack p) (is_argument_page p) off
+parts segments heap stack p off = go (is_segment_page segments p) (is_heap_page segments heap p) (is_stack_page stack p) (p == argument_page / 4096) off
   where
     go : (s h k a : Bool) → ((s && (h || k || a)) || (h && (k || a)) || (k && a)) ≡ false → (((s || h || k) && a) ≡ false) × (((s || h) && k) ≡ false) × ((s && h) ≡ false)
     go s h k a off =
@@ -102,7 +103,7 @@ pub heap_short : (segments : List Segment) (heap stack : ℕ) → heap_page segm
 heap_short segments heap stack low none =
     let apart = parts segments heap stack 0x7ffff (none_shared segments heap stack none 0x7ffff (omega arith)) in
     let free : (nat_le (heap_page segments) 0x7ffff && nat_lt 0x7ffff (heap_page segments + heap)) ≡ false =
-    heap_part (is_segment_page segments 0x7ffff) (is_heap_page segments heap 0x7ffff) (is_stack_page stack 0x7ffff) (is_argument_page 0x7ffff) apart.0 refl in
+    heap_part (is_segment_page segments 0x7ffff) (is_heap_page segments heap 0x7ffff) (is_stack_page stack 0x7ffff) (0x7ffff == argument_page / 4096) apart.0 refl in
     heap_end (heap_page segments) heap free low
 
 -- the pages that are mapped are those that can be read
@@ -113,13 +114,13 @@ mapped_count segments heap stack low stack_fits none =
     let apart = λ (p : ℕ) (lt : p < pages_below). parts segments heap stack p (none_shared segments heap stack none p lt) in
     let first = heap_page segments in
     let short = heap_short segments heap stack low none in
-    let all = count_or (λ p. is_segment_page segments p || is_heap_page segments heap p || is_stack_page stack p) is_argument_page pages_below (λ p lt. (apart p lt).0) in
+    let all = count_or (λ p. is_segment_page segments p || is_heap_page segments heap p || is_stack_page stack p) (λ p. p == argument_page / 4096) pages_below (λ p lt. (apart p lt).0) in
     let more = count_or (λ p. is_segment_page segments p || is_heap_page segments heap p) (is_stack_page stack) pages_below (λ p lt. (apart p lt).1) in
     let last = count_or (is_segment_page segments) (is_heap_page segments heap) pages_below (λ p lt. (apart p lt).2) in
     let heaps : count_below (is_heap_page segments heap) pages_below ≡ heap = count_span first (first + heap) pages_below (omega arith) ∙ (let n : min (first + heap) pages_below - first ≡ heap = omega (arith, short) in n) in
     let stacks : count_below (is_stack_page stack) pages_below ≡ stack = count_span (0x7ffff - stack) 0x7ffff pages_below (omega arith) ∙ (let n : min 0x7ffff pages_below - (0x7ffff - stack) ≡ stack = omega (arith, stack_fits) in n) in
-    let arguments : count_below is_argument_page pages_below ≡ 1 = count_point 0x7ffff pages_below (omega arith) in
-    total (segment_pages segments) heap stack _ _ _ _ _ _ all more last heaps stacks arguments
+    let arguments : count_below (λ p. p == argument_page / 4096) pages_below ≡ 1 = count_point 0x7ffff pages_below (omega arith) in
+    total (count_below (is_segment_page segments) pages_below) heap stack _ _ _ _ _ _ all more last heaps stacks arguments
   where
     total : (s heap stack c h k a m l : ℕ) → c ≡ m + a → m ≡ l + k → l ≡ s + h → h ≡ heap → k ≡ stack → a ≡ 1 → s + heap + stack + 1 ≡ c
     total s heap stack c h k a m l p q r x y z = omega (arith, p, q, r, x, y, z)

@@ -8,7 +8,8 @@ use Rattle.std.proofs.lemmas.List.Folds.{list_any_more}
 use Rattle.std.proofs.lemmas.Bool.{cases_Bool, cases_lt, cases_eq, and_right, or_right}
 use Rattle.std.proofs.lemmas.Bool.Decides.{nat_tests}
 use Rattle.elf_definition.specs.declared.segment.Segment.{Segment}
-use Rattle.elf_definition.specs.Pages.{is_on_page, count_below, page_behind}
+use Rattle.elf_definition.specs.Segments.{segment_end}
+use Rattle.elf_definition.specs.Pages.{is_on_page, count_below}
 use Rattle.elf_image.specs.PageTable.{marked, number_of}
 
 -- pages before the first one are not marked
@@ -128,7 +129,7 @@ high p v m ge = grind (arith, nat_tests)
 pub before_segment : (p : ℕ) (s : Segment) → p < s.vaddr / 4096 → is_on_page p s ≡ false
 before_segment p s lt = low p s.vaddr s.memsz lt
 
-pub behind_segment : (p : ℕ) (s : Segment) → page_behind s ≤ p → is_on_page p s ≡ false
+pub behind_segment : (p : ℕ) (s : Segment) → (segment_end s + 4095) / 4096 ≤ p → is_on_page p s ≡ false
 behind_segment p s ge = high p s.vaddr s.memsz ge
 
 -- numbers of marked pages

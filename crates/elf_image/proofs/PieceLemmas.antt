@@ -10,7 +10,7 @@ use Rattle.elf_definition.specs.Check.{least_below}
 use Rattle.elf_definition.specs.Segments.{IsApart, file_end, segment_end}
 use Rattle.elf_reader.specs.Answer.{IsSound}
 use Rattle.elf_definition.specs.Pages.{is_segment_page}
-use Rattle.elf_definition.specs.Content.{is_in_file_part, file_byte, stored_byte, is_filled_page, has_data}
+use Rattle.elf_definition.specs.Content.{is_in_file, file_byte, stored_byte, is_filled_page, has_data}
 use Rattle.elf_image.proofs.TableLemmas.{least_all, not_stored, some_false}
 use Rattle.elf_image.proofs.StoreLemmas.{part_low, part_high}
 use Rattle.std.proofs.lemmas.Option.{same_Some}
@@ -61,7 +61,7 @@ data_of file piece s page size bytes =
     ]
   where
     test : ℕ → Bool
-    test k = is_in_file_part (4096 * page + k) s && not (file_byte file (4096 * page + k) s == 0)
+    test k = is_in_file (4096 * page + k) s && not (file_byte file (4096 * page + k) s == 0)
 
     at_k : (k : ℕ) → k < length piece → max s.vaddr (4096 * page) + k ≡ 4096 * page + (max s.vaddr (4096 * page) + k - 4096 * page)
     at_k k lt = omega arith
@@ -79,8 +79,8 @@ data_of file piece s page size bytes =
         let a = max s.vaddr (4096 * page) + k in
         let facts = within_page s.vaddr (file_end s) page k (omega (arith, lt, size)) in
         let here : 4096 * page + (a - 4096 * page) ≡ a = sym (at_k k lt) in
-        let no : (is_in_file_part a s && not (file_byte file a s == 0)) ≡ false = ap (λ x. is_in_file_part x s && not (file_byte file x s == 0)) (sym here) ∙ off (a - 4096 * page) facts.0 in
-        ap (λ b. not (b == 0)) (get_default piece k d lt ∙ bytes k lt) ∙ zero_byte (is_in_file_part a s) (file_byte file a s) (is_in s.vaddr (file_end s) a facts.1 facts.2) no
+        let no : (is_in_file a s && not (file_byte file a s == 0)) ≡ false = ap (λ x. is_in_file x s && not (file_byte file x s == 0)) (sym here) ∙ off (a - 4096 * page) facts.0 in
+        ap (λ b. not (b == 0)) (get_default piece k d lt ∙ bytes k lt) ∙ zero_byte (is_in_file a s) (file_byte file a s) (is_in s.vaddr (file_end s) a facts.1 facts.2) no
 
     place_lt : (v fe p k len : ℕ) → v ≤ 4096 * p + k → 4096 * p + k < fe → k < 4096 → len ≡ min fe (4096 * p + 4096) - max v (4096 * p)
         → (4096 * p + k - max v (4096 * p) < len) × (max v (4096 * p) + (4096 * p + k - max v (4096 * p)) ≡ 4096 * p + k)
@@ -88,8 +88,8 @@ data_of file piece s page size bytes =
 
     zeros : (k : ℕ) → k < 4096 → list_any (λ b. not (b == 0)) piece ≡ false → test k ≡ false
     zeros k lt none =
-        elim (cases_Bool (is_in_file_part (4096 * page + k) s)) [
-          | inr out ↦ and_left (is_in_file_part (4096 * page + k) s) (not (file_byte file (4096 * page + k) s == 0)) out
+        elim (cases_Bool (is_in_file (4096 * page + k) s)) [
+          | inr out ↦ and_left (is_in_file (4096 * page + k) s) (not (file_byte file (4096 * page + k) s == 0)) out
           | inl on ↦
               let a = 4096 * page + k in
               let j = a - max s.vaddr (4096 * page) in
@@ -105,16 +105,16 @@ data_of file piece s page size bytes =
 met : (v e v' e' at : ℕ) → v ≤ at → at < e → v' ≤ at → at < e' → nat_lt (max v v') (min e e') ≡ true
 met v e v' e' at a b c d = grind (arith, nat_tests)
 
-part : (len at : ℕ) (s : Segment) → IsSound len s → is_in_file_part at s ≡ true → (s.vaddr ≤ at) × (at < segment_end s)
+part : (len at : ℕ) (s : Segment) → IsSound len s → is_in_file at s ≡ true → (s.vaddr ≤ at) × (at < segment_end s)
 part len at s sound on = go s.vaddr s.filesz s.memsz at sound.sizes on
   where
     go : (v f m at : ℕ) → f ≤ m → (nat_le v at && nat_lt at (v + f)) ≡ true → (v ≤ at) × (at < v + m)
     go v f m at sizes on = (grind (arith, nat_tests), grind (arith, nat_tests))
 
 -- two segments that are apart do not both have an address
-not_both : (len at : ℕ) (s t : Segment) → IsSound len s → IsSound len t → IsApart s t → is_in_file_part at t ≡ true → is_in_file_part at s ≡ false
+not_both : (len at : ℕ) (s t : Segment) → IsSound len s → IsSound len t → IsApart s t → is_in_file at t ≡ true → is_in_file at s ≡ false
 not_both len at s t sound sound' apart on' =
-    elim (cases_Bool (is_in_file_part at s)) [
+    elim (cases_Bool (is_in_file at s)) [
       | inr off ↦ off
       | inl on ↦ absurd (
           let a = part len at s sound on in
@@ -125,7 +125,7 @@ not_both len at s t sound sound' apart on' =
 
 -- a segment that has an address is the one that is found
 pub found : (len at : ℕ) (segments : List Segment) (i : ℕ) (d : Segment) → All (IsSound len) segments → AllPairs IsApart segments → i < length segments
-    → is_in_file_part at (get_or segments i d) ≡ true → find (is_in_file_part at) segments ≡ Some (get_or segments i d)
+    → is_in_file at (get_or segments i d) ≡ true → find (is_in_file at) segments ≡ Some (get_or segments i d)
 found len at [] i d sound apart lt on = absurd (omega (arith, lt))
 found len at (s ∷ rest) zero d sound apart lt on = rw on refl
 found len at (s ∷ rest) (suc i) d sound apart lt on =
@@ -133,7 +133,7 @@ found len at (s ∷ rest) (suc i) d sound apart lt on =
     rw off (found len at rest i d (λ k d' within. sound (suc k) d' (omega (arith, within))) (λ j k d' less within. apart (suc j) (suc k) d' (omega (arith, less)) (omega (arith, within))) (omega (arith, lt)) on)
 
 stored_found : (len at : ℕ) (file : List ℕ) (segments : List Segment) (i : ℕ) (d : Segment) → All (IsSound len) segments → AllPairs IsApart segments → i < length segments
-    → is_in_file_part at (get_or segments i d) ≡ true → stored_byte file segments at ≡ file_byte file at (get_or segments i d)
+    → is_in_file at (get_or segments i d) ≡ true → stored_byte file segments at ≡ file_byte file at (get_or segments i d)
 unfolding stored_byte
 stored_found len at file segments i d sound apart lt on = ap (λ o. option_map_or (file_byte file at) o 0) (found len at segments i d sound apart lt on)
 
@@ -158,24 +158,24 @@ nil_test on = absurd (cc)
 
 -- a byte that is not 0 is one of a segment's
 stored_part : (file : List ℕ) (segments : List Segment) (at : ℕ) (q : Segment → Bool) → not (stored_byte file segments at == 0) ≡ true
-    → ((s : Segment) → is_in_file_part at s ≡ true → not (file_byte file at s == 0) ≡ true → q s ≡ true) → list_any q segments ≡ true
+    → ((s : Segment) → is_in_file at s ≡ true → not (file_byte file at s == 0) ≡ true → q s ≡ true) → list_any q segments ≡ true
 unfolding stored_byte
-stored_part file segments at q some each = go (find (is_in_file_part at) segments) refl some
+stored_part file segments at q some each = go (find (is_in_file at) segments) refl some
   where
-    go : (o : Option Segment) → find (is_in_file_part at) segments ≡ o → not (option_map_or (file_byte file at) o 0 == 0) ≡ true → list_any q segments ≡ true
+    go : (o : Option Segment) → find (is_in_file at) segments ≡ o → not (option_map_or (file_byte file at) o 0 == 0) ≡ true → list_any q segments ≡ true
     go None is on = absurd (nil_test on)
-    go (Some s) is on = find_any (is_in_file_part at) q segments s is (each s (find_passes (is_in_file_part at) segments s is) on)
+    go (Some s) is on = find_any (is_in_file at) q segments s is (each s (find_passes (is_in_file at) segments s is) on)
 
-data_some : (file : List ℕ) (page : ℕ) (s : Segment) (k : ℕ) → k < 4096 → is_in_file_part (4096 * page + k) s ≡ true → not (file_byte file (4096 * page + k) s == 0) ≡ true
+data_some : (file : List ℕ) (page : ℕ) (s : Segment) (k : ℕ) → k < 4096 → is_in_file (4096 * page + k) s ≡ true → not (file_byte file (4096 * page + k) s == 0) ≡ true
     → has_data file page s ≡ true
 unfolding has_data
 data_some file page s k lt on some =
-    some_below (λ k. is_in_file_part (4096 * page + k) s && not (file_byte file (4096 * page + k) s == 0)) 4096 k lt (rw on some)
+    some_below (λ k. is_in_file (4096 * page + k) s && not (file_byte file (4096 * page + k) s == 0)) 4096 k lt (rw on some)
 
 data_none : (file : List ℕ) (page : ℕ) (s : Segment)
-    → ((k : ℕ) → k < 4096 → (is_in_file_part (4096 * page + k) s && not (file_byte file (4096 * page + k) s == 0)) ≡ false) → has_data file page s ≡ false
+    → ((k : ℕ) → k < 4096 → (is_in_file (4096 * page + k) s && not (file_byte file (4096 * page + k) s == 0)) ≡ false) → has_data file page s ≡ false
 unfolding has_data
-data_none file page s off = none_below (λ k. is_in_file_part (4096 * page + k) s && not (file_byte file (4096 * page + k) s == 0)) 4096 off
+data_none file page s off = none_below (λ k. is_in_file (4096 * page + k) s && not (file_byte file (4096 * page + k) s == 0)) 4096 off
 
 zero_test : (b : ℕ) → b ≡ 0 → not (b == 0) ≡ false
 zero_test b e = grind (arith, nat_tests)
@@ -208,10 +208,10 @@ filled_any len file segments page sound apart =
     ]
   where
     no_data : (i : ℕ) (d : Segment) (k : ℕ) → i < length segments → not (stored_byte file segments (4096 * page + k) == 0) ≡ false
-        → (is_in_file_part (4096 * page + k) (get_or segments i d) && not (file_byte file (4096 * page + k) (get_or segments i d) == 0)) ≡ false
+        → (is_in_file (4096 * page + k) (get_or segments i d) && not (file_byte file (4096 * page + k) (get_or segments i d) == 0)) ≡ false
     no_data i d k lt off =
-        elim (cases_Bool (is_in_file_part (4096 * page + k) (get_or segments i d))) [
-          | inr out ↦ and_left (is_in_file_part (4096 * page + k) (get_or segments i d)) (not (file_byte file (4096 * page + k) (get_or segments i d) == 0)) out
+        elim (cases_Bool (is_in_file (4096 * page + k) (get_or segments i d))) [
+          | inr out ↦ and_left (is_in_file (4096 * page + k) (get_or segments i d)) (not (file_byte file (4096 * page + k) (get_or segments i d) == 0)) out
           | inl on ↦
               let byte = stored_found len (4096 * page + k) file segments i d sound apart lt on in
               rw on (ap (λ b. not (b == 0)) (sym byte) ∙ off)
@@ -231,7 +231,7 @@ high_data : (p v f k : ℕ) → (v + f + 4095) / 4096 ≤ p → (nat_le v (4096 
 high_data p v f k ge = grind (arith, nat_tests)
 
 pub before_data : (file : List ℕ) (p : ℕ) (s : Segment) → p < s.vaddr / 4096 → has_data file p s ≡ false
-before_data file p s lt = data_none file p s (λ k within. and_left (is_in_file_part (4096 * p + k) s) (not (file_byte file (4096 * p + k) s == 0)) (low_data p s.vaddr s.filesz k lt within))
+before_data file p s lt = data_none file p s (λ k within. and_left (is_in_file (4096 * p + k) s) (not (file_byte file (4096 * p + k) s == 0)) (low_data p s.vaddr s.filesz k lt within))
 
 pub behind_data : (file : List ℕ) (p : ℕ) (s : Segment) → (file_end s + 4095) / 4096 ≤ p → has_data file p s ≡ false
-behind_data file p s ge = data_none file p s (λ k within. and_left (is_in_file_part (4096 * p + k) s) (not (file_byte file (4096 * p + k) s == 0)) (high_data p s.vaddr s.filesz k ge))
+behind_data file p s ge = data_none file p s (λ k within. and_left (is_in_file (4096 * p + k) s) (not (file_byte file (4096 * p + k) s == 0)) (high_data p s.vaddr s.filesz k ge))

@@ -6,7 +6,7 @@ use Rattle.std.proofs.lemmas.Bool.{cases_Bool, cases_lt, cases_eq, and_right}
 use Rattle.std.proofs.lemmas.Bool.Decides.{nat_tests}
 use Rattle.elf_definition.specs.declared.segment.Segment.{Segment}
 use Rattle.elf_definition.specs.Segments.{file_end}
-use Rattle.elf_definition.specs.Content.{is_in_file_part, file_byte, stored_byte}
+use Rattle.elf_definition.specs.Content.{is_in_file, file_byte, stored_byte}
 use Rattle.elf_image.specs.PageTable.{byte_in, table_word, table_byte}
 use Rattle.run_definition.specs.Words.{lane_of_word}
 use Rattle.elf_image.proofs.TableLemmas.{lane_of_zero}
@@ -127,7 +127,7 @@ pub put_page : (file index words words' piece : List ℕ) (s : Segment) (page nu
     → ((k : ℕ) → k < length piece → get_or piece k 0 ≡ file_byte file (max s.vaddr (4096 * page) + k) s)
     → ((j : ℕ) → byte_in words' j ≡ cond (nat_le (4096 * (number - 1) + past) j && nat_lt j (4096 * (number - 1) + past + length piece)) (get_or piece (j - (4096 * (number - 1) + past)) 0) (byte_in words j))
     → (get_or index (at / 4096) 0 ≡ 0 → ⊥)
-    → table_byte index words' at ≡ cond (is_in_file_part at s && at / 4096 == page) (file_byte file at s) (table_byte index words at)
+    → table_byte index words' at ≡ cond (is_in_file at s && at / 4096 == page) (file_byte file at s) (table_byte index words at)
 put_page file index words words' piece s page number past at is some distinct start size bytes put filled =
     let place = get_or index (at / 4096) 0 in
     let j = 4096 * (place - 1) + at % 4096 in
@@ -136,10 +136,10 @@ put_page file index words words' piece s page number past at is some distinct st
       | inl here ↦
           let same : place ≡ number = ap (λ p. get_or index p 0) here ∙ is in
           let on_page : (at / 4096 == page) ≡ true = grind (arith, nat_tests) in
-          let inside : (nat_le (4096 * (number - 1) + past) j && nat_lt j (4096 * (number - 1) + past + length piece)) ≡ is_in_file_part at s =
+          let inside : (nat_le (4096 * (number - 1) + past) j && nat_lt j (4096 * (number - 1) + past + length piece)) ≡ is_in_file at s =
           ap (λ n. nat_le (4096 * (number - 1) + past) (4096 * (n - 1) + at % 4096) && nat_lt (4096 * (n - 1) + at % 4096) (4096 * (number - 1) + past + length piece)) same
           ∙ in_page s.vaddr (file_end s) page at (number - 1) past (length piece) here start size in
-          elim (cases_Bool (is_in_file_part at s)) [
+          elim (cases_Bool (is_in_file at s)) [
             | inl on ↦ rw inside (rw on (rw on_page (
                 let low = part_low s.vaddr (file_end s) at on in
                 let high = part_high s.vaddr (file_end s) at on in
@@ -153,7 +153,7 @@ put_page file index words words' piece s page number past at is some distinct st
           let differ : number - 1 ≡ place - 1 → ⊥ = λ e. other (distinct (at / 4096) page (let e' : place ≡ number = omega (arith, e, some, filled) in e' ∙ sym is) filled) in
           let outside : (nat_le (4096 * (number - 1) + past) j && nat_lt j (4096 * (number - 1) + past + length piece)) ≡ false =
           off_page s.vaddr (file_end s) page (number - 1) (place - 1) past (length piece) (at % 4096) differ (omega arith) start size in
-          rw outside (rw on_page (rw (and_right (is_in_file_part at s) false refl) (sym (table_byte_in index words at place refl filled))))
+          rw outside (rw on_page (rw (and_right (is_in_file at s) false refl) (sym (table_byte_in index words at place refl filled))))
     ]
   where
     moved : (v fe p at n past len : ℕ) → at / 4096 ≡ p → past ≡ max v (4096 * p) - 4096 * p → len ≡ min fe (4096 * p + 4096) - max v (4096 * p) → v ≤ at → at < fe
@@ -162,13 +162,13 @@ put_page file index words words' piece s page number past at is some distinct st
 
 -- a page that is not stored
 pub skip_page : (file index words : List ℕ) (s : Segment) (page at : ℕ) → get_or index page 0 ≡ 0 → (get_or index (at / 4096) 0 ≡ 0 → ⊥)
-    → table_byte index words at ≡ cond (is_in_file_part at s && at / 4096 == page) (file_byte file at s) (table_byte index words at)
+    → table_byte index words at ≡ cond (is_in_file at s && at / 4096 == page) (file_byte file at s) (table_byte index words at)
 skip_page file index words s page at none filled =
     elim (cases_eq (at / 4096) page) [
       | inl here ↦ absurd (filled (ap (λ p. get_or index p 0) here ∙ none))
       | inr other ↦
           let on_page : (at / 4096 == page) ≡ false = grind (arith, nat_tests) in
-          rw on_page (rw (and_right (is_in_file_part at s) false refl) refl)
+          rw on_page (rw (and_right (is_in_file at s) false refl) refl)
     ]
 
 -- one page more of a segment
@@ -220,7 +220,7 @@ pub none_put : (file index : List ℕ) (segments : List Segment) (n at count : �
 unfolding table_word stored_byte
 none_put file index segments n at count past =
     ap (λ w. lane_of_word w (at % 4)) (zeros (get_or index (at / 4 / 1024) 0) (at / 4 % 1024)) ∙ lane_of_zero (at % 4)
-    ∙ sym (ap (λ ss. option_map_or (file_byte file at) (find (is_in_file_part at) ss) 0) (drop_all n segments past))
+    ∙ sym (ap (λ ss. option_map_or (file_byte file at) (find (is_in_file at) ss) 0) (drop_all n segments past))
   where
     zero_at : (n i : ℕ) → ◌≡◌ {A = ℕ} (get_or (replicate n 0) i 0) 0
     zero_at zero i = refl
@@ -236,17 +236,17 @@ none_put file index segments n at count past =
 
 -- one segment more, which stands before those that are put
 pub one_put : (file : List ℕ) (segments : List Segment) (i n at new old : ℕ) (d : Segment) → i < length segments → n ≡ i + 1
-    → new ≡ cond (is_in_file_part at (get_or segments i d)) (file_byte file at (get_or segments i d)) old → old ≡ stored_byte file (drop n segments) at
+    → new ≡ cond (is_in_file at (get_or segments i d)) (file_byte file at (get_or segments i d)) old → old ≡ stored_byte file (drop n segments) at
     → new ≡ stored_byte file (drop i segments) at
 unfolding stored_byte
 one_put file segments i n at new old d lt next made was =
-    made ∙ ap (λ o. cond (is_in_file_part at (get_or segments i d)) (file_byte file at (get_or segments i d)) o) (was ∙ ap (λ m. option_map_or (file_byte file at) (find (is_in_file_part at) (drop m segments)) 0) next)
-    ∙ go (is_in_file_part at (get_or segments i d)) refl
-    ∙ sym (ap (λ ss. option_map_or (file_byte file at) (find (is_in_file_part at) ss) 0) (drop_more segments i d lt))
+    made ∙ ap (λ o. cond (is_in_file at (get_or segments i d)) (file_byte file at (get_or segments i d)) o) (was ∙ ap (λ m. option_map_or (file_byte file at) (find (is_in_file at) (drop m segments)) 0) next)
+    ∙ go (is_in_file at (get_or segments i d)) refl
+    ∙ sym (ap (λ ss. option_map_or (file_byte file at) (find (is_in_file at) ss) 0) (drop_more segments i d lt))
   where
-    go : (b : Bool) → is_in_file_part at (get_or segments i d) ≡ b
-        → cond (is_in_file_part at (get_or segments i d)) (file_byte file at (get_or segments i d)) (option_map_or (file_byte file at) (find (is_in_file_part at) (drop (i + 1) segments)) 0)
-        ≡ option_map_or (file_byte file at) (find (is_in_file_part at) (get_or segments i d ∷ drop (i + 1) segments)) 0
+    go : (b : Bool) → is_in_file at (get_or segments i d) ≡ b
+        → cond (is_in_file at (get_or segments i d)) (file_byte file at (get_or segments i d)) (option_map_or (file_byte file at) (find (is_in_file at) (drop (i + 1) segments)) 0)
+        ≡ option_map_or (file_byte file at) (find (is_in_file at) (get_or segments i d ∷ drop (i + 1) segments)) 0
     go true on = rw on refl
     go false off = rw off refl
 

@@ -10,7 +10,7 @@ use Rattle.elf_definition.specs.declared.segment.Segment.{Segment}
 use Rattle.elf_definition.specs.Check.{least_below}
 use Rattle.elf_reader.specs.Answer.{IsSound}
 use Rattle.elf_definition.specs.Pages.{is_on_page, is_segment_page, count_below}
-use Rattle.elf_definition.specs.Content.{is_in_file_part, file_byte, stored_byte, stored_word, is_filled_page}
+use Rattle.elf_definition.specs.Content.{is_in_file, file_byte, stored_byte, stored_word, is_filled_page}
 use Rattle.elf_image.specs.PageTable.{marked, number_of, table_word, table_byte}
 use Rattle.run_definition.specs.Words.{word_of_bytes, lane_of_word}
 use Rattle.nv_words.proofs.LaneLemmas.{lane_of_word-of_bytes, below_four, same_lanes}
@@ -26,7 +26,7 @@ on_page v f m at sizes in_file =
     let high : at < v + f = grind (arith, nat_tests) in
     (low, omega (arith, high, sizes), omega arith, omega arith)
 
-part_on_page : (len at : ℕ) (s : Segment) → IsSound len s → is_in_file_part at s ≡ true → is_on_page (at / 4096) s ≡ true
+part_on_page : (len at : ℕ) (s : Segment) → IsSound len s → is_in_file at s ≡ true → is_on_page (at / 4096) s ≡ true
 part_on_page len at s sound in_file =
     let facts = on_page s.vaddr s.filesz s.memsz at sound.sizes in_file in
     meets s.vaddr (s.vaddr + s.memsz) (4096 * (at / 4096)) at facts.0 facts.1 facts.2 facts.3
@@ -39,10 +39,10 @@ pub not_stored : (len : ℕ) (file : List ℕ) (segments : List Segment) (at : �
     → is_segment_page segments (at / 4096) ≡ false → stored_byte file segments at ≡ 0
 unfolding stored_byte is_segment_page
 not_stored len file segments at sound off =
-    ap (λ o. option_map_or (file_byte file at) o 0) (find_none (is_in_file_part at) segments (λ k d within. outside k d within))
+    ap (λ o. option_map_or (file_byte file at) o 0) (find_none (is_in_file at) segments (λ k d within. outside k d within))
   where
-    outside : (k : ℕ) (d : Segment) → k < length segments → is_in_file_part at (get_or segments k d) ≡ false
-    outside k d within = elim (cases_Bool (is_in_file_part at (get_or segments k d))) [
+    outside : (k : ℕ) (d : Segment) → k < length segments → is_in_file at (get_or segments k d) ≡ false
+    outside k d within = elim (cases_Bool (is_in_file at (get_or segments k d))) [
       | inl on ↦ absurd (let met = list_any_at (is_on_page (at / 4096)) segments k d within (part_on_page len at (get_or segments k d) (sound k d within) on) in cc)
       | inr past ↦ past
     ]
@@ -100,7 +100,7 @@ option_lt file at (Some s) fits = fits _
 -- a byte of the segments is a byte
 pub stored_byte-lt : (file : List ℕ) (segments : List Segment) (at : ℕ) → ((i : ℕ) → get_or file i 0 < 2 ^ 8) → stored_byte file segments at < 2 ^ 8
 unfolding stored_byte
-stored_byte-lt file segments at fits = option_lt file at (find (is_in_file_part at) segments) fits
+stored_byte-lt file segments at fits = option_lt file at (find (is_in_file at) segments) fits
 
 lane_of_stored : (file : List ℕ) (segments : List Segment) → ((i : ℕ) → get_or file i 0 < 2 ^ 8) → (at i : ℕ) → i < 4
     → lane_of_word (stored_word file segments at) i ≡ stored_byte file segments (at + i)

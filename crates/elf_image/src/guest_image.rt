@@ -6,7 +6,8 @@ ghost use Rattle.elf_definition.specs.Area.{area, has_address};
 ghost use Rattle.elf_definition.specs.Fault.{elf_fault, IsRunsOf};
 ghost use Rattle.elf_definition.specs.Content.{stored_byte, stored_word, is_filled_page};
 ghost use Rattle.run_definition.specs.Words.{lane_of_word};
-ghost use Rattle.elf_definition.specs.Pages.{pages_below, argument_page_number, heap_page, count_below};
+ghost use Rattle.mips_definition.specs.State.{argument_page};
+ghost use Rattle.elf_definition.specs.Pages.{pages_below, heap_page, count_below};
 ghost use Rattle.elf_definition.specs.ImageFault.{code_words, image_fault};
 ghost use Rattle.elf_definition.specs.Start.{image_of, readable, writable};
 ghost use Rattle.elf_image.specs.Whole.{IsWholeRange};
@@ -132,7 +133,7 @@ impl Image {
     pub fn gap(&self) -> ops::Range<u32>
         ensures start { result.start
             ≡ min (heap_page (live self.now.file) + self.now.heap) pages_below }
-        ensures end { result.end ≡ max (argument_page_number - self.now.stack) result.start }
+        ensures end { result.end ≡ max (argument_page / 4096 - self.now.stack) result.start }
         ensures low { result.end ≤ 524288 }
         ensures ordered { result.start ≤ result.end }
         ensures unused { (page : ℕ) → result.start ≤ page → page < result.end

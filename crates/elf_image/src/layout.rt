@@ -1,8 +1,9 @@
-ghost use Rattle.std.specs.Prelude.{◌≡◌, ℕ, ◌+◌, ◌-◌, ◌≤◌, ◌<◌, max, min, None, false, All, IfOk, length};
+ghost use Rattle.std.specs.Prelude.{◌≡◌, ℕ, ◌+◌, ◌-◌, ◌≤◌, ◌<◌, max, min, None, false, All, IfOk, length, ◌/◌};
 ghost use Rattle.elf_definition.specs.Check.{least_below};
 ghost use Rattle.elf_definition.specs.Segments.{segment_end};
 ghost use Rattle.elf_definition.specs.declared.segment.Segment.{Segment};
-ghost use Rattle.elf_definition.specs.Pages.{pages_below, argument_page_number, heap_page, is_segment_page, is_data_page, is_heap_page, is_stack_page, is_readable_page, is_writable_page, is_shared, segment_pages, mapped_pages};
+ghost use Rattle.mips_definition.specs.State.{argument_page};
+ghost use Rattle.elf_definition.specs.Pages.{pages_below, heap_page, is_segment_page, is_data_page, is_heap_page, is_stack_page, is_readable_page, is_writable_page, is_shared, mapped_pages, count_below};
 ghost use Rattle.elf_image.specs.PageTable.{marked};
 
 use crate::page_marks::{count_marks, data_marks, is_marked, segment_marks};
@@ -141,7 +142,7 @@ impl Layout {
 
     /// How many pages hold a byte of a segment.
     fn segment_pages(&self) -> u32
-        ensures count { result ≡ segment_pages self.now.segments.value.items }
+        ensures count { result ≡ count_below (is_segment_page self.now.segments.value.items) pages_below }
         ensures bound { result ≤ 524288 }
     {
         count_marks(self.pages.as_slice())
@@ -183,7 +184,7 @@ impl Layout {
     pub fn gap(&self) -> Range<u32>
         ensures start { result.start
             ≡ min (heap_page self.now.segments.value.items + self.now.heap) pages_below }
-        ensures end { result.end ≡ max (argument_page_number - self.now.stack) result.start }
+        ensures end { result.end ≡ max (argument_page / 4096 - self.now.stack) result.start }
         ensures low { result.end ≤ 524288 }
         ensures ordered { result.start ≤ result.end }
         ensures unused { (page : ℕ) → result.start ≤ page → page < result.end

@@ -1,9 +1,9 @@
 //! Marks of pages, from page 0 to the last one of the segments.
-ghost use Rattle.std.specs.Prelude.{◌≡◌, ℕ, ◌<◌, ◌≤◌, ◌==◌, false, ◌&&◌, ◌||◌, All, length, slice_index, IfOk};
+ghost use Rattle.std.specs.Prelude.{◌≡◌, ℕ, ◌<◌, ◌≤◌, ◌==◌, false, ◌&&◌, ◌||◌, All, length, slice_index, IfOk, ◌+◌, ◌/◌};
 ghost use Rattle.elf_reader.specs.Answer.{IsSound};
 ghost use Rattle.elf_definition.specs.Segments.{segment_end, is_writable};
 ghost use Rattle.elf_definition.specs.declared.segment.Segment.{Segment};
-ghost use Rattle.elf_definition.specs.Pages.{is_on_page, page_behind, heap_page, is_segment_page, is_data_page, count_below};
+ghost use Rattle.elf_definition.specs.Pages.{is_on_page, heap_page, is_segment_page, is_data_page, count_below};
 ghost use Rattle.elf_image.specs.PageTable.{marked, number_of};
 
 use crate::pages::{heap_page, is_on_page, page_behind};
@@ -38,7 +38,7 @@ pub fn mark(marks: &mut [bool], page: u32, on: bool)
 
 /// Marks the pages that hold a byte of a segment.
 fn mark_segment(marks: &mut [bool], segment: &Segment)
-    requires within { page_behind segment.now ≤ length marks.old }
+    requires within { (segment_end segment.now + 4095) / 4096 ≤ length marks.old }
     requires low { segment_end segment.now ≤ 0x7F00_0000 }
     ensures len { length marks.new ≡ length marks.old }
     ensures marks { (p : ℕ) → marked marks.new p
@@ -51,7 +51,7 @@ fn mark_segment(marks: &mut [bool], segment: &Segment)
 
 /// Marks the pages that hold a byte of a segment, where that may be written (`PF_W`).
 fn mark_writable(marks: &mut [bool], segment: &Segment)
-    requires within { page_behind segment.now ≤ length marks.old }
+    requires within { (segment_end segment.now + 4095) / 4096 ≤ length marks.old }
     requires low { segment_end segment.now ≤ 0x7F00_0000 }
     ensures len { length marks.new ≡ length marks.old }
     ensures marks { (p : ℕ) → marked marks.new p

@@ -1,6 +1,6 @@
 //! The pages that segments lie on.
-ghost use Rattle.std.specs.Prelude.{◌≡◌, ◌≤◌, All};
-ghost use Rattle.elf_definition.specs.Pages.{is_on_page, page_behind, heap_page};
+ghost use Rattle.std.specs.Prelude.{◌≡◌, ◌≤◌, All, ◌+◌, ◌/◌};
+ghost use Rattle.elf_definition.specs.Pages.{is_on_page, heap_page};
 ghost use Rattle.elf_definition.specs.Segments.{segment_end};
 ghost use Rattle.elf_definition.specs.declared.segment.Segment.{Segment};
 
@@ -24,7 +24,7 @@ pub fn heap_page(segments: &[Segment]) -> u32
     requires low { All (λ (s : Segment). segment_end s ≤ 0x7F00_0000) segments.now }
     ensures page { result ≡ heap_page segments.now }
     ensures bound { result ≤ 0x7F000 }
-    ensures behind { All (λ s. page_behind s ≤ result) segments.now }
+    ensures behind { All (λ s. (segment_end s + 4095) / 4096 ≤ result) segments.now }
 {
     let mut page = 0;
     for s in segments {
@@ -36,7 +36,7 @@ pub fn heap_page(segments: &[Segment]) -> u32
 /// The first page past a segment.
 pub fn page_behind(segment: &Segment) -> u32
     requires { segment_end segment.now ≤ 0x7F00_0000 }
-    ensures page { result ≡ page_behind segment.now }
+    ensures page { result ≡ (segment_end segment.now + 4095) / 4096 }
     ensures bound { result ≤ 0x7F000 }
 {
     (segment.vaddr + segment.memsz).div_ceil(4096)

@@ -1,7 +1,7 @@
 //! The words of the pages that hold a byte that is not 0.
 ghost use Rattle.std.specs.Prelude.{◌≡◌, ℕ, ◌+◌, ◌-◌, ◌*◌, ◌/◌, ◌<◌, ◌≤◌, ◌==◌, nat_le, nat_lt, ◌&&◌, if◌then◌else◌, All, length, slice_index, IfOk};
 ghost use Rattle.elf_reader.specs.Answer.{IsSound};
-ghost use Rattle.elf_definition.specs.Content.{is_in_file_part, file_byte, stored_byte};
+ghost use Rattle.elf_definition.specs.Content.{is_in_file, file_byte, stored_byte};
 ghost use Rattle.elf_image.specs.PageTable.{byte_in, table_byte};
 
 use crate::filled::{first_on_page, page_behind_data, piece};
@@ -50,7 +50,7 @@ fn put_page(words: &mut [u32], index: &[u32], file: &[u8], segment: &Segment, pa
     ensures len { length words.new ≡ length words.old }
     ensures bytes { (at : ℕ) → (slice_index index.now (at / 4096) ≡ 0 → ⊥)
         → table_byte index.now words.new at
-        ≡ (if is_in_file_part at segment.now && at / 4096 == page
+        ≡ (if is_in_file at segment.now && at / 4096 == page
         then file_byte file.now at segment.now else table_byte index.now words.old at) }
 {
     let number = number_of(index, page);
@@ -73,7 +73,7 @@ fn put_segment(words: &mut [u32], index: &[u32], file: &[u8], segment: &Segment)
     ensures len { length words.new ≡ length words.old }
     ensures bytes { (at : ℕ) → (slice_index index.now (at / 4096) ≡ 0 → ⊥)
         → table_byte index.now words.new at
-        ≡ (if is_in_file_part at segment.now then file_byte file.now at segment.now
+        ≡ (if is_in_file at segment.now then file_byte file.now at segment.now
         else table_byte index.now words.old at) }
 {
     for page in segment.vaddr / 4096..page_behind_data(segment) {

@@ -1,7 +1,7 @@
 //! The checks of the code area.
 ghost use Rattle.std.specs.Prelude.{◌≡◌, ℕ, ◌+◌, ◌^◌, ◌<◌, ◌≤◌, ◌&&◌, ◌==◌, length, map, filter, All, IfOk, IfSome};
 ghost use Rattle.std.specs.List.{list_any, list_all};
-ghost use Rattle.elf_definition.specs.Area.{range_end, range_is_on_page, is_shared_page, area_fault, page_count};
+ghost use Rattle.elf_definition.specs.Area.{range_end, range_is_on_page, is_shared_page, area_fault, address_pages};
 ghost use Rattle.elf_definition.specs.Check.{least_below};
 ghost use Rattle.elf_definition.specs.Segments.{is_writable};
 ghost use Rattle.elf_reader.specs.Spans.{are_within, AreRising, AreFilled, IsLeastFrom, lesser, page_span};
@@ -50,7 +50,7 @@ fn shared_page(
     requires low { All (λ (r : Range). range_end r ≤ 2 ^ 32) ranges.now }
     requires live { All (λ (s : Segment). 1 ≤ s.memsz) segments.now }
     ensures least { IfOk result (λ page. page
-        ≡ least_below (is_shared_page ranges.now segments.now) page_count) }
+        ≡ least_below (is_shared_page ranges.now segments.now) address_pages) }
     ensures bound { IfOk result (λ page. IfSome page (λ i. i < 2 ^ 20)) }
 {
     let pages = rising(alloc, data_pages(alloc, segments)?)?;

@@ -2,7 +2,8 @@
 ghost use Rattle.std.specs.Prelude.{◌≡◌, ◌≤◌, [], ◌∷◌, ◌++◌, IfErr, IfOk, OnOk, length, map};
 ghost use Rattle.elf_writer.specs.Limits.{IsWritable};
 ghost use Rattle.mips_asm.specs.declared.asm_error.AsmError.TheVariants.{NoMemory};
-ghost use Rattle.mips_asm.specs.File.{IsFileOf, IsProgram, data_segments, segment_of, whole_segment};
+ghost use Rattle.elf_definition.specs.Parts.{part_segment};
+ghost use Rattle.mips_asm.specs.File.{IsFileOf, IsProgram, data_segments, whole_segment};
 
 use crate::asm_error::AsmError;
 use crate::place::{DATA, TEXT};
@@ -56,7 +57,7 @@ fn program_parts(alloc: Global, segments: Segments) -> Result<Parts, AllocError>
 /// Appends the data, if there is any.
 fn push_data(parts: &mut Vec<Part>, bytes: Vec<u8>) -> Result<(), AllocError>
     requires { length bytes.items ≤ 16777216 }
-    ensures { OnOk result (map segment_of parts.new.items ≡ map segment_of parts.old.items
+    ensures { OnOk result (map part_segment parts.new.items ≡ map part_segment parts.old.items
         ++ data_segments bytes.items) }
 {
     if bytes.is_empty() {
@@ -69,7 +70,7 @@ fn push_data(parts: &mut Vec<Part>, bytes: Vec<u8>) -> Result<(), AllocError>
 /// A segment all of whose bytes are in the file.
 fn whole_part(vaddr: u32, flags: u32, bytes: Vec<u8>) -> Part
     requires { length bytes.items ≤ 16777216 }
-    ensures { segment_of result ≡ whole_segment vaddr flags bytes.items }
+    ensures { part_segment result ≡ whole_segment vaddr flags bytes.items }
 {
     Part {
         vaddr,

@@ -9,7 +9,7 @@ use Rattle.elf_definition.specs.declared.range.Range.{Range}
 use Rattle.elf_definition.specs.declared.segment.Segment.{Segment}
 use Rattle.elf_definition.specs.Check.{fails, fails_at, first_fault, least_below}
 use Rattle.elf_definition.specs.Segments.{is_live, is_writable}
-use Rattle.elf_definition.specs.Area.{area_fault, is_shared_page, page_count, range_is_on_page, segment_range}
+use Rattle.elf_definition.specs.Area.{area_fault, is_shared_page, address_pages, range_is_on_page, segment_range}
 use Rattle.elf_reader.specs.Spans.{are_within, page_span}
 use Rattle.elf_reader.proofs.PageLemmas.{shared_least}
 use Rattle.mips_asm_laws.proofs.Checks.{area_of, live_of, whole}
@@ -20,12 +20,12 @@ live_first h headers on = ap (λ t. map (λ (h : ProgramHeader). h.segment) (con
 -- no page is shared where none holds code and writable data
 pub no_shared : (ranges : List Range) (segments : List Segment) → All (λ (s : Segment). 1 ≤ s.memsz) segments
     → ((page : ℕ) → (list_any (range_is_on_page page) ranges && are_within page (page + 1) (map page_span (filter is_writable segments))) ≡ false)
-    → least_below (is_shared_page ranges segments) page_count ≡ None
+    → least_below (is_shared_page ranges segments) address_pages ≡ None
 no_shared ranges segments live apart =
     let spans = map page_span (filter is_writable segments) in
-    sym (shared_least ranges segments spans spans spans None page_count live refl (λ first behind lt. refl) refl (λ page le. apart page) tt)
+    sym (shared_least ranges segments spans spans spans None address_pages live refl (λ first behind lt. refl) refl (λ page le. apart page) tt)
 
-pub area_passes : (r : Range) (segments : List Segment) → (r.words == 0) ≡ false → least_below (is_shared_page (r ∷ []) segments) page_count ≡ None
+pub area_passes : (r : Range) (segments : List Segment) → (r.words == 0) ≡ false → least_below (is_shared_page (r ∷ []) segments) address_pages ≡ None
     → area_fault (r ∷ []) segments ≡ None
 unfolding area_fault
 area_passes r segments some none = λ i. first_fault (fails 21 (some i && true) ∷ fails_at 22 (none i) ∷ [])

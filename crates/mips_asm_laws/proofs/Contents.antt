@@ -16,7 +16,7 @@ use Rattle.elf_writer.specs.ReadBack.{part_segments, HasWords, HoldsParts}
 use Rattle.elf_writer.proofs.PlaceLemmas.{le_contents_end}
 use Rattle.elf_writer.proofs.LengthLemmas.{length-elf_file, length-section_table}
 use Rattle.elf_writer.proofs.ReadBackLemmas.{reads_back, parts_held}
-use Rattle.mips_asm.specs.File.{segment_of}
+use Rattle.elf_definition.specs.Parts.{part_segment}
 use Rattle.mips_asm_laws.specs.Reading.{contents_in, with_memory}
 
 -- bytes that a file holds at a place
@@ -31,7 +31,7 @@ bytes_read file bytes at inside each =
     (λ k lt. get_or-take n (drop at file) k 0 (omega (arith, lt, size, same)) ∙ get_or-drop at file k 0 ∙ each k (omega (arith, lt, size)))
 
 segments_read : (file : List ℕ) (at : ℕ) (parts : List Part) → contents_end at parts ≤ length file → HoldsParts file at parts
-    → contents_in file (part_segments at parts) ≡ with_memory (map segment_of parts)
+    → contents_in file (part_segments at parts) ≡ with_memory (map part_segment parts)
 unfolding part_segments HoldsParts
 segments_read file at [] inside held = refl
 segments_read file at (s ∷ parts) inside held =
@@ -44,7 +44,7 @@ segments_read file at (s ∷ parts) inside held =
 
 -- the live segments of a written file are the parts that have memory, with their bytes
 pub parts_read : (parts : Parts) → IsWritable parts → All HasWords parts.segments.items
-    → contents_in (elf_file parts) (live (elf_file parts)) ≡ with_memory (map segment_of parts.segments.items)
+    → contents_in (elf_file parts) (live (elf_file parts)) ≡ with_memory (map part_segment parts.segments.items)
 parts_read parts writable words =
     let segments = parts.segments.items in
     ap (contents_in (elf_file parts)) (reads_back parts writable words)

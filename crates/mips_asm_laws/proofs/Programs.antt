@@ -17,7 +17,8 @@ use Rattle.elf_definition.specs.FilePlaces.{aligned, part_end, contents_place, c
 use Rattle.elf_definition.specs.File as writer
 use Rattle.elf_writer.specs.ReadBack.{HasWords}
 use Rattle.elf_writer.proofs.LengthLemmas.{length-elf_file}
-use Rattle.mips_asm.specs.File.{Segment as Content, segment_of, whole_segment, data_segments, segments_of, IsFileOf}
+use Rattle.elf_definition.specs.Parts.{PartSegment as Content, part_segment}
+use Rattle.mips_asm.specs.File.{whole_segment, data_segments, segments_of, IsFileOf}
 use Rattle.mips_asm.proofs.ProgramLemmas.{writable}
 use Rattle.mips_asm_laws.specs.Reading.{contents_in, with_memory}
 use Rattle.mips_asm_laws.proofs.Contents.{parts_read}
@@ -144,10 +145,10 @@ small text (b ∷ bytes) short short' =
     All-cons IsSmall (whole_segment 0x00400000 5 text) (data_segments (b ∷ bytes)) (omega arith, omega (arith, short), omega arith)
     (All-cons IsSmall (whole_segment 0x10000000 6 (b ∷ bytes)) [] (omega arith, omega (arith, short'), omega arith) (All-nil IsSmall))
 
-pub have_words : (parts : List Part) (segments : List Content) → map segment_of parts ≡ segments → All IsSmall segments → All HasWords parts
+pub have_words : (parts : List Part) (segments : List Content) → map part_segment parts ≡ segments → All IsSmall segments → All HasWords parts
 have_words parts segments are all k d lt =
     let known = subst (λ (ss : List Content). All IsSmall ss) (sym are) all in
-    subst IsSmall (get_or-map segment_of parts k d (segment_of d) lt) (known k (segment_of d) (omega (arith, lt, length-map parts segment_of)))
+    subst IsSmall (get_or-map part_segment parts k d (part_segment d) lt) (known k (part_segment d) (omega (arith, lt, length-map parts part_segment)))
 
 pub program_read : (text bytes file : List ℕ) → IsFileOf text bytes file → length text ≤ 4194304 → length bytes ≤ 16777216
     → contents_in file (live file) ≡ with_memory (segments_of text bytes)

@@ -8,7 +8,7 @@ use Rattle.elf_definition.specs.FileFields.{words}
 use Rattle.elf_definition.specs.FilePlaces.{aligned, part_end, contents_place, contents_end, table_end, segments_end, table_place, header_count}
 use Rattle.elf_definition.specs.File as writer
 use Rattle.elf_writer.proofs.LengthLemmas.{length-contents, length-elf_file, length-elf_header, length-padding, length-program_headers}
-use Rattle.mips_asm.specs.File.{Segment as Content, segment_of}
+use Rattle.elf_definition.specs.Parts.{PartSegment as Content, part_segment}
 
 -- ---- the bytes of the program headers, and the end of the bytes of the segments
 abbrev pub header_bytes : ℕ → List Content → List ℕ
@@ -17,7 +17,7 @@ header_bytes at (s ∷ segments) =
     words (1 ∷ aligned at ∷ s.address ∷ s.address ∷ length s.contents ∷ s.memory ∷ s.flags ∷ 4 ∷ [])
     ++ header_bytes (aligned at + length s.contents) segments
 
-same_bytes : (at : ℕ) (parts : List Part) → writer.program_header_table at parts ≡ header_bytes at (map segment_of parts)
+same_bytes : (at : ℕ) (parts : List Part) → writer.program_header_table at parts ≡ header_bytes at (map part_segment parts)
 same_bytes at [] = refl
 same_bytes at (s ∷ parts) = ap (λ bytes. writer.program_header_bytes (aligned at) s ++ bytes) (same_bytes (part_end at s) parts)
 
@@ -25,7 +25,7 @@ abbrev pub end_of : ℕ → List Content → ℕ
 end_of at [] = at
 end_of at (s ∷ segments) = end_of (aligned at + length s.contents) segments
 
-same_end : (at : ℕ) (parts : List Part) → contents_end at parts ≡ end_of at (map segment_of parts)
+same_end : (at : ℕ) (parts : List Part) → contents_end at parts ≡ end_of at (map part_segment parts)
 same_end at [] = refl
 same_end at (s ∷ parts) = same_end (part_end at s) parts
 
@@ -33,12 +33,12 @@ same_end at (s ∷ parts) = same_end (part_end at s) parts
 abbrev pub place_of : List Content → ℕ
 place_of segments = 52 + 32 * length segments
 
-same_place : (parts : List Part) (segments : List Content) → map segment_of parts ≡ segments → contents_place parts ≡ place_of segments
-same_place parts segments are = ap (λ n. 52 + 32 * n) (sym (length-map parts segment_of) ∙ ap (λ ss. length ss) are)
+same_place : (parts : List Part) (segments : List Content) → map part_segment parts ≡ segments → contents_place parts ≡ place_of segments
+same_place parts segments are = ap (λ n. 52 + 32 * n) (sym (length-map parts part_segment) ∙ ap (λ ss. length ss) are)
 
 -- ---- the file
 -- it begins with its header and its program headers
-pub begins : (parts : Parts) (segments : List Content) → map segment_of parts.segments.items ≡ segments
+pub begins : (parts : Parts) (segments : List Content) → map part_segment parts.segments.items ≡ segments
     → (ys : List ℕ)
     × (writer.elf_file parts ≡ writer.elf_header parts.entry (table_place (segments_end parts) parts.sections.items) (length segments) (header_count parts.sections.items)
     ++ (header_bytes (place_of segments) segments ++ ys))
@@ -52,7 +52,7 @@ begins parts segments are =
     let rest = writer.section_table (segments_end parts) items sections in
     let headers : writer.program_header_table place items ≡ header_bytes (place_of segments) segments =
     same_bytes place items ∙ ap (header_bytes place) are ∙ ap (λ at. header_bytes at segments) (same_place items segments are) in
-    let count : length items ≡ length segments = sym (length-map items segment_of) ∙ ap (λ ss. length ss) are in (
+    let count : length items ≡ length segments = sym (length-map items part_segment) ∙ ap (λ ss. length ss) are in (
       contents ++ rest,
       append_assoc (head ++ writer.program_header_table place items) contents rest
           ∙ append_assoc head (writer.program_header_table place items) (contents ++ rest)
@@ -60,13 +60,13 @@ begins parts segments are =
     )
 
 -- the bytes of its segments have an end, behind which its section header table stands
-pub segments_end_is : (parts : Parts) (segments : List Content) → map segment_of parts.segments.items ≡ segments
+pub segments_end_is : (parts : Parts) (segments : List Content) → map part_segment parts.segments.items ≡ segments
     → segments_end parts ≡ end_of (place_of segments) segments
 segments_end_is parts segments are =
     same_end (contents_place parts.segments.items) parts.segments.items ∙ ap (end_of (contents_place parts.segments.items)) are
     ∙ ap (λ at. end_of at segments) (same_place parts.segments.items segments are)
 
-pub ends : (parts : Parts) (segments : List Content) (sections : List Sec) → map segment_of parts.segments.items ≡ segments → parts.sections.items ≡ sections
+pub ends : (parts : Parts) (segments : List Content) (sections : List Sec) → map part_segment parts.segments.items ≡ segments → parts.sections.items ≡ sections
     → length (writer.elf_file parts) ≡ table_end (end_of (place_of segments) segments) sections
 ends parts segments sections are these =
     length-elf_file parts ∙ ap (λ l. table_end (segments_end parts) l) these

@@ -1,7 +1,7 @@
 -- What a file holds of its segments.
 use Rattle.std.specs.Prelude.{ℕ, ◌+◌, nat_lt, List, map, filter, slice_range}
 use Rattle.elf_definition.specs.declared.segment.Segment.{Segment}
-use Rattle.mips_asm.specs.File.{Segment as Content}
+use Rattle.elf_definition.specs.Parts.{PartSegment as Content}
 
 -- a segment's address, flags and length in memory, and its bytes in the file
 abbrev pub content_in : List ℕ → Segment → Content

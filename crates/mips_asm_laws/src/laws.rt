@@ -12,7 +12,8 @@ ghost use Rattle.elf_definition.specs.FileFields.{words};
 ghost use Rattle.elf_definition.specs.File.{elf_file};
 ghost use Rattle.elf_writer.specs.Limits.{IsWritable};
 ghost use Rattle.elf_writer.specs.ReadBack.{HasWords};
-ghost use Rattle.mips_asm.specs.File.{IsAssembled, segment_of, segments_of};
+ghost use Rattle.elf_definition.specs.Parts.{part_segment};
+ghost use Rattle.mips_asm.specs.File.{IsAssembled, segments_of};
 ghost use Rattle.mips_asm.specs.Program.{asm_fault, data_words, text_words};
 ghost use Rattle.mips_asm_laws.specs.Reading.{contents_in, with_memory};
 
@@ -47,7 +48,7 @@ pub fn parts_are_held(parts: &Parts)
     ensures entry { (header_of (elf_file parts.now)).e_entry ≡ parts.now.entry }
     ensures order { order_of (elf_file parts.now) ≡ Big }
     ensures segments { contents_in (elf_file parts.now) (live (elf_file parts.now))
-        ≡ with_memory (map segment_of parts.now.segments.items) }
+        ≡ with_memory (map part_segment parts.now.segments.items) }
 {
     let _entry = parts.entry;
     parts_have_words(parts.segments.as_slice());
@@ -64,7 +65,7 @@ pub fn read_written<'a>(alloc: Global, parts: &Parts, file: &'a [u8]) -> Result<
     ensures entry { IfOk result (λ elf. elf.entry ≡ parts.now.entry) }
     ensures order { IfOk result (λ elf. elf.order ≡ Big) }
     ensures segments { IfOk result (λ elf. contents_in file.now elf.segments.items
-        ≡ with_memory (map segment_of parts.now.segments.items)) }
+        ≡ with_memory (map part_segment parts.now.segments.items)) }
 {
     parts_are_held(parts);
     read_elf(alloc, file)

@@ -10,7 +10,8 @@ use Rattle.elf_definition.specs.declared.segment.Segment.{Segment}
 use Rattle.elf_definition.specs.Segments.{live, is_writable}
 use Rattle.elf_definition.specs.Area.{area, range_end, has_address}
 use Rattle.elf_definition.specs.Fault.{IsRunsOf}
-use Rattle.elf_definition.specs.Pages.{is_on_page, is_segment_page, is_data_page, is_heap_page, is_stack_page, is_argument_page, is_readable_page, is_writable_page}
+use Rattle.mips_definition.specs.State.{argument_page}
+use Rattle.elf_definition.specs.Pages.{is_on_page, is_segment_page, is_data_page, is_heap_page, is_stack_page, is_readable_page, is_writable_page}
 use Rattle.elf_definition.specs.Content.{stored_byte, stored_word, stored_code_word, is_filled_page}
 use Rattle.elf_definition.specs.Start.{Source, image_of, start_byte, code_at, readable, writable}
 use Rattle.mips_memory.specs.Loading.{with_words}
@@ -32,7 +33,7 @@ writable_page : (segments : List Segment) (heap stack page : ℕ) → is_readabl
 unfolding is_readable_page is_writable_page is_segment_page is_data_page
 writable_page segments heap stack page off =
     by_tests (list_any (is_on_page page) segments) (list_any (λ s. is_writable s && is_on_page page s) segments)
-    (is_heap_page segments heap page) (is_stack_page stack page) (is_argument_page page) off (data_page page segments)
+    (is_heap_page segments heap page) (is_stack_page stack page) (page == argument_page / 4096) off (data_page page segments)
   where
     by_tests : (a b h s g : Bool) → (a || h || s || g) ≡ false → (a ≡ false → b ≡ false) → (b || h || s || g) ≡ false
     by_tests true b h s g e f = last b h s g e

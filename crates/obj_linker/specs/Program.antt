@@ -1,28 +1,13 @@
 -- The file of a program, whose image is the text and behind it the data.
 use Rattle.std.specs.Prelude.{◌≡◌, ℕ, ◌-◌, nat_lt, if◌then◌else◌, List, [], ◌∷◌, map, take, drop}
-use Rattle.elf_definition.specs.declared.part.Part.{Part}
 use Rattle.elf_definition.specs.declared.parts.Parts.{Parts}
 use Rattle.elf_definition.specs.declared.sec.Sec.{Sec}
+use Rattle.elf_definition.specs.Parts.{PartSegment, part_segment}
 use Rattle.elf_definition.specs.File.{elf_file}
 use Rattle.obj_linker.specs.Layout.{data_start, text_start}
 
--- a segment: its address, its flags, its length in memory, and its bytes
-pub record LinkedSegment : Type 0 where
-  pub address : ℕ
-  pub flags : ℕ
-  pub memory : ℕ
-  pub contents : List ℕ
-
-abbrev pub linked_segment : Part → LinkedSegment
-linked_segment part = record {
-  address = part.vaddr;
-  flags = part.flags;
-  memory = part.mem;
-  contents = part.bytes.items;
-}
-
 -- the text, up to its end: to be read and executed
-abbrev pub text_segment : List ℕ → ℕ → LinkedSegment
+abbrev pub text_segment : List ℕ → ℕ → PartSegment
 text_segment image text_end = record {
   address = text_start;
   flags = 5;
@@ -31,7 +16,7 @@ text_segment image text_end = record {
 }
 
 -- the data, and zeros behind it up to their end: to be read and written, where there is any memory
-abbrev pub linked_data : List ℕ → ℕ → ℕ → List LinkedSegment
+abbrev pub linked_data : List ℕ → ℕ → ℕ → List PartSegment
 linked_data image text_end zeros_end =
     if nat_lt data_start zeros_end then record {
       address = data_start;
@@ -52,7 +37,7 @@ pub record IsLinkedParts (at : ℕ) (image : List ℕ) (code_end text_end zeros_
     : Type 0 where
   pub entry : parts.entry ≡ at
   pub segments :
-      map linked_segment parts.segments.items
+      map part_segment parts.segments.items
       ≡ text_segment image text_end ∷ linked_data image text_end zeros_end
   pub sections : parts.sections.items ≡ code_section code_end ∷ []
 

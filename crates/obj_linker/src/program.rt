@@ -1,5 +1,6 @@
 //! The file of a program.
 ghost use Rattle.std.specs.Prelude.{◌≡◌, ◌≤◌, ◌<◌, ◌^◌, ◌++◌, ◌∷◌, [], IfOk, OnOk, length, map};
+ghost use Rattle.elf_definition.specs.Parts.{part_segment};
 ghost use Rattle.elf_writer.specs.Limits.{IsWritable};
 ghost use Rattle.obj_linker.specs.Layout.{text_start};
 ghost use Rattle.obj_linker.specs.Program as spec;
@@ -66,7 +67,7 @@ fn program_parts(alloc: Global, entry: u32, image: &[u8], ends: &Ends) -> Result
 fn text_part(alloc: Global, image: &[u8], ends: &Ends) -> Result<Part, AllocError>
     requires { text_start ≤ ends.now.text }
     ensures { IfOk result (λ part.
-        spec.linked_segment part ≡ spec.text_segment image.now ends.now.text) }
+        part_segment part ≡ spec.text_segment image.now ends.now.text) }
 {
     let size = ends.text - TEXT_START;
     Ok(Part {
@@ -85,8 +86,8 @@ fn push_data(
     ends: &Ends,
 ) -> Result<(), AllocError>
     requires { text_start ≤ ends.now.text }
-    ensures { OnOk result (map spec.linked_segment segments.new.items
-        ≡ map spec.linked_segment segments.old.items
+    ensures { OnOk result (map part_segment segments.new.items
+        ≡ map part_segment segments.old.items
         ++ spec.linked_data image.now ends.now.text ends.now.zeros) }
 {
     if ends.zeros <= DATA_START {

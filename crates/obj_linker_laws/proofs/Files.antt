@@ -13,7 +13,7 @@ use Rattle.elf_definition.specs.declared.program_header.ProgramHeader.{ProgramHe
 use Rattle.elf_definition.specs.declared.range.Range.{Range}
 use Rattle.elf_definition.specs.declared.section_header.SectionHeader.{SectionHeader}
 use Rattle.elf_definition.specs.declared.segment.Segment.{Segment}
-use Rattle.elf_definition.specs.Area.{area_fault, code_ranges, is_shared_page, page_count, range_is_on_page, ranges_of, section_range}
+use Rattle.elf_definition.specs.Area.{area_fault, code_ranges, is_shared_page, address_pages, range_is_on_page, ranges_of, section_range}
 use Rattle.elf_definition.specs.Check.{fails, fails_at, first_fault, least_below}
 use Rattle.elf_definition.specs.Fault.{elf_fault}
 use Rattle.elf_definition.specs.Header.{header_of, identity_fault, order_of}
@@ -22,7 +22,7 @@ use Rattle.elf_definition.specs.Segments.{live, overlap_from, program_header, pr
 use Rattle.elf_definition.specs.File as writer
 use Rattle.elf_definition.specs.FilePlaces.{aligned}
 use Rattle.elf_writer.proofs.ReadBackLemmas.{count_is, table_place_is}
-use Rattle.mips_asm.specs.File.{Segment as Content}
+use Rattle.elf_definition.specs.Parts.{PartSegment as Content}
 use Rattle.mips_asm_laws.proofs.Areas.{area_passes, live_first, no_shared, pages_apart}
 use Rattle.mips_asm_laws.proofs.Checks.{Passes, apart_in_order, entry_size, headers_pass, identity_passes, live_are, live_of, loaded, loaded_passes, none_passes, table_passes}
 use Rattle.mips_asm_laws.proofs.Written.{header_bytes}
@@ -219,7 +219,7 @@ two_area at n at' d m size live live' some short =
 no_words : (size : ℕ) (segments : List Segment) → size / 4 ≡ 0 → area_fault (code_range size ∷ []) segments ≡ fails 21 true
 unfolding area_fault
 no_words size segments none =
-    let later = option_or (fails_at 22 (least_below (is_shared_page (code_range size ∷ []) segments) page_count)) None in
+    let later = option_or (fails_at 22 (least_below (is_shared_page (code_range size ∷ []) segments) address_pages)) None in
     ap (λ k. option_or (fails 21 ((k == 0) && true)) later) none
 
 no_ranges : (segments : List Segment) → area_fault [] segments ≡ fails 21 true

@@ -10,7 +10,7 @@ use Rattle.elf_definition.specs.declared.parts.Parts.{Parts}
 use Rattle.elf_definition.specs.declared.sec.Sec.{Sec}
 use Rattle.elf_definition.specs.File as writer
 use Rattle.elf_definition.specs.FilePlaces.{aligned, contents_place, file_offset, header_count, segments_end, table_place}
-use Rattle.mips_asm.specs.File.{Segment as Content, segment_of}
+use Rattle.elf_definition.specs.Parts.{PartSegment as Content, part_segment}
 use Rattle.mips_asm_laws.proofs.Programs.{IsSmall}
 use Rattle.mips_asm_laws.proofs.Written.{begins, ends, header_bytes, place_of, segments_end_is, table_stands}
 use Rattle.obj_reader.specs.declared.section.Section.{Section as SectionOf}
@@ -21,10 +21,9 @@ use Rattle.obj_linker.specs.Names.{definition_of}
 use Rattle.obj_linker.specs.Sites.{is_section_placed}
 use Rattle.obj_linker.specs.Layout.{code_end, data_end, data_start, places_of, text_end, text_start, zeros_end}
 use Rattle.obj_linker.specs.Link.{IsLinked, entry_address, defined_meaning, entry_of, objects_fault, linked_image}
-use Rattle.obj_linker.specs.Program.{LinkedSegment, IsLinkedParts, code_section, linked_data, text_segment}
-use Rattle.obj_linker.specs.Program as linker
+use Rattle.obj_linker.specs.Program.{IsLinkedParts, code_section, linked_data, text_segment}
 use Rattle.obj_linker_laws.specs.Held.{image_in, sections_in, sites_in, symbols_in}
-use Rattle.obj_linker_laws.specs.Reading.{content_of, contents_of, placed_contents}
+use Rattle.obj_linker_laws.specs.Reading.{contents_of, placed_contents}
 use Rattle.obj_linker_laws.proofs.Files.{IsShaped, data_at, data_content, one_header, one_passes, text_at, text_content, two_headers, two_pass}
 use Rattle.obj_linker_laws.proofs.Images.{image_size}
 use Rattle.obj_linker_laws.proofs.Linked.{inside_objects, not_large}
@@ -36,7 +35,7 @@ code_of size = record { kind = 1; flags = 6; addr = 0x00400000; size = size }
 
 -- ---- files of one and of two segments
 -- the begin of a file whose one section is the code
-front_is : (file : List ℕ) (parts : Parts) (cs : List Content) (size : ℕ) → file ≡ writer.elf_file parts → map segment_of parts.segments.items ≡ cs
+front_is : (file : List ℕ) (parts : Parts) (cs : List Content) (size : ℕ) → file ≡ writer.elf_file parts → map part_segment parts.segments.items ≡ cs
     → parts.sections.items ≡ code_of size ∷ []
     → (ys : List ℕ) × (file ≡ writer.elf_header parts.entry (aligned (segments_end parts)) (length cs) 2 ++ (header_bytes (place_of cs) cs ++ ys))
 front_is file parts cs size is are these =
@@ -51,7 +50,7 @@ there_is : (file : List ℕ) (parts : Parts) (size : ℕ) → file ≡ writer.el
 there_is file parts size is these = ap (λ f. drop (aligned (segments_end parts)) f) is ∙ table_stands parts (code_of size) [] these
 
 pub one_shape : (file : List ℕ) (parts : Parts) (text : List ℕ) (n size : ℕ) → file ≡ writer.elf_file parts
-    → map segment_of parts.segments.items ≡ text_content text n ∷ [] → parts.sections.items ≡ code_of size ∷ []
+    → map part_segment parts.segments.items ≡ text_content text n ∷ [] → parts.sections.items ≡ code_of size ∷ []
     → length text ≡ n → n ≤ 16777216 → size ≤ n → IsShaped file parts.entry (aligned (segments_end parts)) 1 size (text_at 84 n ∷ [])
 one_shape file parts text n size is are these long short le =
     let cs : List Content = text_content text n ∷ [] in
@@ -77,7 +76,7 @@ one_shape file parts text n size is are these long short le =
     }
 
 pub two_shape : (file : List ℕ) (parts : Parts) (text bytes : List ℕ) (n d m size : ℕ) → file ≡ writer.elf_file parts
-    → map segment_of parts.segments.items ≡ text_content text n ∷ data_content bytes m ∷ [] → parts.sections.items ≡ code_of size ∷ []
+    → map part_segment parts.segments.items ≡ text_content text n ∷ data_content bytes m ∷ [] → parts.sections.items ≡ code_of size ∷ []
     → length text ≡ n → length bytes ≡ d → n ≤ 16777216 → d ≤ m → d ≤ 16777216 → m ≤ 1073741824 → size ≤ n
     → IsShaped file parts.entry (aligned (segments_end parts)) 2 size (text_at 116 n ∷ data_at (aligned (116 + n)) d m ∷ [])
 two_shape file parts text bytes n d m size is are these long long' short less short' low le =
@@ -106,27 +105,23 @@ two_shape file parts text bytes n d m size is are these long long' short less sh
     }
 
 -- ---- the contents of a linked program
-same_contents : (parts : List Part) → map segment_of parts ≡ map content_of (map linker.linked_segment parts)
-same_contents [] = refl
-same_contents (s ∷ parts) = ap (λ l. segment_of s ∷ l) (same_contents parts)
-
 pub contents_are : (at code text last : ℕ) (image : List ℕ) (parts : Parts) → IsLinkedParts at image code text last parts
-    → map segment_of parts.segments.items ≡ contents_of image text last
-contents_are at code text last image parts is = same_contents parts.segments.items ∙ ap (λ l. map content_of l) is.segments
+    → map part_segment parts.segments.items ≡ contents_of image text last
+contents_are at code text last image parts is = is.segments
 
 -- the text, and the data where there is any
 pub without_data : (image : List ℕ) (text last : ℕ) → last ≤ data_start
     → contents_of image text last ≡ text_content (take (text - text_start) image) (text - text_start) ∷ []
 without_data image text last le =
-    let part : LinkedSegment = record { address = data_start; flags = 6; memory = last - data_start; contents = drop (text - text_start) image } in
-    ap (λ t. map content_of (text_segment image text ∷ cond t (part ∷ []) [])) (le-ltb data_start last le)
+    let part : Content = record { address = data_start; flags = 6; memory = last - data_start; contents = drop (text - text_start) image } in
+    ap (λ t. text_segment image text ∷ cond t (part ∷ []) []) (le-ltb data_start last le)
 
 pub with_data : (image : List ℕ) (text last : ℕ) → data_start < last
     → contents_of image text last
     ≡ text_content (take (text - text_start) image) (text - text_start) ∷ data_content (drop (text - text_start) image) (last - data_start) ∷ []
 with_data image text last lt =
-    let part : LinkedSegment = record { address = data_start; flags = 6; memory = last - data_start; contents = drop (text - text_start) image } in
-    ap (λ t. map content_of (text_segment image text ∷ cond t (part ∷ []) [])) (lt-ltb data_start last lt)
+    let part : Content = record { address = data_start; flags = 6; memory = last - data_start; contents = drop (text - text_start) image } in
+    ap (λ t. text_segment image text ∷ cond t (part ∷ []) []) (lt-ltb data_start last lt)
 
 -- the lengths of a linked program
 pub record Lengths (files : List (List ℕ)) : Type 0 where
@@ -186,7 +181,7 @@ shaped files entry file none is = (parts, by (cases_lt data_start (zeros_end all
     known : Lengths files
     known = lengths files entry none
 
-    contents : map segment_of parts.segments.items ≡ contents_of (image_in files) (text_end all) (zeros_end all)
+    contents : map part_segment parts.segments.items ≡ contents_of (image_in files) (text_end all) (zeros_end all)
     contents = contents_are is.0 (code_end all) (text_end all) (zeros_end all) (image_in files) parts is.2.1
 
     by : (data_start < zeros_end all) ⊎ (zeros_end all ≤ data_start) → OneSegment files file parts ⊎ TwoSegments files file parts

@@ -10,7 +10,8 @@ use Rattle.elf_definition.specs.declared.segment.Segment.{Segment}
 use Rattle.elf_definition.specs.Segments.{live, is_writable}
 use Rattle.elf_definition.specs.Start.{Source, readable, writable, start_byte, image_of}
 use Rattle.elf_definition.specs.Content.{stored_byte, stored_word, is_filled_page}
-use Rattle.elf_definition.specs.Pages.{is_on_page, is_segment_page, is_data_page, is_heap_page, is_stack_page, is_argument_page, is_readable_page, is_writable_page}
+use Rattle.mips_definition.specs.State.{argument_page}
+use Rattle.elf_definition.specs.Pages.{is_on_page, is_segment_page, is_data_page, is_heap_page, is_stack_page, is_readable_page, is_writable_page}
 use Rattle.elf_image_parts.specs.Pages.{Page, page_words, page_at, filled_below}
 use Rattle.elf_image_parts.specs.Runs.{pages_of}
 use Rattle.emit_layout.specs.FieldNumbers.{page_count}
@@ -103,7 +104,7 @@ four false b c d e = cc
 pub filled-read : (s : Source) (n : ℕ) → is_filled_page s.file (live s.file) n ≡ true → readable s n ≡ true
 unfolding is_readable_page
 filled-read s n e =
-    four (is_segment_page (live s.file) n) (is_heap_page (live s.file) s.heap n) (is_stack_page s.stack n) (is_argument_page n) (filled-segment s n e)
+    four (is_segment_page (live s.file) n) (is_heap_page (live s.file) s.heap n) (is_stack_page s.stack n) (n == argument_page / 4096) (filled-segment s n e)
 
 more-any : (page : ℕ) (segments : List Segment) → list_any (λ t. is_writable t && is_on_page page t) segments ≡ true → list_any (is_on_page page) segments ≡ true
 more-any page [] e = e
@@ -130,7 +131,7 @@ swap-first false false x y z sub e = e
 written-read : (s : Source) (n : ℕ) → writable s n ≡ true → readable s n ≡ true
 unfolding is_writable_page is_readable_page
 written-read s n e =
-    swap-first (is_data_page (live s.file) n) (is_segment_page (live s.file) n) (is_heap_page (live s.file) s.heap n) (is_stack_page s.stack n) (is_argument_page n) (data-segment s n) e
+    swap-first (is_data_page (live s.file) n) (is_segment_page (live s.file) n) (is_heap_page (live s.file) s.heap n) (is_stack_page s.stack n) (n == argument_page / 4096) (data-segment s n) e
 
 -- ---- the filled pages as a list
 

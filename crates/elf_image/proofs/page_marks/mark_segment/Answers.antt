@@ -1,5 +1,6 @@
-use Rattle.std.proofs.Common.{◌∙◌, ◌≤◌, sym, ap, refl, arith}
-use Rattle.elf_definition.specs.Pages.{is_on_page, page_behind}
+use Rattle.std.proofs.Common.{◌∙◌, ◌≤◌, sym, ap, refl, arith, ◌+◌, ◌/◌}
+use Rattle.elf_definition.specs.Segments.{segment_end}
+use Rattle.elf_definition.specs.Pages.{is_on_page}
 use Rattle.elf_image.proofs.MarkLemmas.{or_first, or_step, or_done, before_segment, behind_segment}
 use Rattle.elf_image.proofs.page_marks.mark_segment.Goals as goal
 
@@ -17,5 +18,5 @@ pub returns : goal.returns
 returns c = record {
   len = c.loop-page.invariant.len;
   marks = λ p. or_done _ _ (is_on_page p c.args.segment.now) p c.loop-page.page (c.loop-page.invariant.marks p)
-      (λ ge. behind_segment p c.args.segment.now (let past : page_behind c.args.segment.now ≤ p = omega (arith, ge, c.loop-page-test.false, c.page_behind-page-end.ensures.page) in past));
+      (λ ge. behind_segment p c.args.segment.now (let past : (segment_end c.args.segment.now + 4095) / 4096 ≤ p = omega (arith, ge, c.loop-page-test.false, c.page_behind-page-end.ensures.page) in past));
 }

@@ -1,5 +1,5 @@
 use Rattle.std.proofs.Common.{◌∙◌, refl, arith}
-use Rattle.elf_definition.specs.Content.{is_in_file_part}
+use Rattle.elf_definition.specs.Content.{is_in_file}
 use Rattle.elf_image.proofs.StoreLemmas.{segment_first, segment_more, segment_done}
 use Rattle.elf_image.proofs.store.put_segment.Goals as goal
 
@@ -9,7 +9,7 @@ loop-page-init c = record { len = refl; bytes = λ at filled. segment_first c.ar
 pub loop-page-preserved : goal.loop-page-preserved
 loop-page-preserved c = record {
   len = c.put_page.ensures.len ∙ c.loop-page.invariant.len;
-  bytes = λ at filled. segment_more _ _ _ _ at c.loop-page.page (is_in_file_part at c.args.segment.now) (c.put_page.ensures.bytes at filled) (c.loop-page.invariant.bytes at filled);
+  bytes = λ at filled. segment_more _ _ _ _ at c.loop-page.page (is_in_file at c.args.segment.now) (c.put_page.ensures.bytes at filled) (c.loop-page.invariant.bytes at filled);
 }
 
 pub returns : goal.returns
