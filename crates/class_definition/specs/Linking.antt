@@ -1,5 +1,5 @@
 -- The program that classes are: their fields and methods, numbered class by class, and instructions with what they name.
-use Rattle.std.specs.Prelude.{◌≡◌, ℕ, zero, suc, ◌+◌, ◌-◌, ◌^◌, ◌==◌, nat_eq, ℤ, Bool, if◌then◌else◌, List, [], ◌∷◌, ◌++◌, map, length, flat_map, codes, slice_get, slice_index, Option, Some, None, Result, Ok, Err, unwrap_or, option_map}
+use Rattle.std.specs.Prelude.{◌≡◌, ℕ, zero, suc, ◌+◌, ◌-◌, ◌^◌, ◌==◌, nat_eq, ℤ, Bool, if◌then◌else◌, List, [], ◌∷◌, ◌++◌, map, length, flat_map, codes, slice_get, slice_index, Option, Some, None, Result, Ok, Err, unwrap_or}
 use Rattle.std.specs.List.{starts_with}
 use Rattle.std.specs.Int.{w64, cast_unsigned}
 use Rattle.run_definition.specs.Words.{unsigned_of}
@@ -85,10 +85,6 @@ abbrev pub field_kinds : List Class → List Kind
 field_kinds classes = flat_map (λ c. map (field_kind c) c.fields) classes
 
 -- ---- references
-
-abbrev pub reference_of : Class → Option (ℕ × ℕ) → Option Reference
-reference_of c r =
-    option_map (λ slots. reference_to (class_name_at c slots.0) (signature_at c slots.1)) r
 
 -- a field with its type, where there is one
 abbrev pub field_of_number : (ℕ → Kind → Instruction) → Option ℕ → Signature → Instruction
