@@ -1,8 +1,8 @@
 -- Loads, stores and patches over pages.
 use Rattle.std.proofs.Common.{◌≡◌, ℕ, zero, suc, ◌&&◌, ◌+◌, ◌*◌, ◌/◌, ◌%◌, ◌<◌, ◌≤◌, ◌^◌, Bool, true, false, nat_lt, if◌then◌else◌, List, [], ◌∷◌, length, Option, Some, None, refl, ap, sym, ◌∙◌, subst, arith, option_map, is_none, is_some, IsTrue, Result, Ok, Err}
-use Rattle.std.specs.Prelude.{slice_index, slice_set, ℤ}
+use Rattle.std.specs.Prelude.{slice_index, slice_index_or, slice_set, ℤ}
 use Rattle.std.specs.List.{list_all}
-use Rattle.std.proofs.lemmas.Bool.{and_parts, ltb-true}
+use Rattle.std.proofs.lemmas.Bool.{and_parts, le-ltb, ltb-true}
 use Rattle.std.proofs.lemmas.List.{length-set}
 use Rattle.run_definition.specs.Memory.{Memory, can_write, patched}
 use Rattle.run_definition.specs.Question.{Question, asked, places_asked, room_at}
@@ -19,8 +19,9 @@ use Rattle.mips_definition.specs.Loads.{store_aligned, store_allowed}
 use Rattle.mips_definition.specs.declared.names.store_name.StoreName.{StoreName}
 use Rattle.mips_definition.specs.declared.names.store_name.StoreName.TheVariants.{Sb}
 use Rattle.mips_memory.specs.ByteList.{memory_in}
+use Rattle.mips_memory.specs.declared.page.Page.TheVariants.{Unmapped}
 use Rattle.mips_memory.specs.Pages.{Pages, is_writable, entry, cell, memory_of, put_byte_at, IsSound}
-use Rattle.mips_memory.specs.ViewLaws.{cell-writable, writable-high, put_some}
+use Rattle.mips_memory.specs.ViewLaws.{cell-writable, put_some}
 use Rattle.mips_memory.proofs.ByteLemmas.{memory_in-set}
 use Rattle.mips_memory.proofs.PageLemmas.{stored-there, IsSound-bytes}
 use Rattle.mips_memory.proofs.WordLemmas.{IsAllowedAt, store_aligned-at, store_allowed-at}
@@ -69,6 +70,12 @@ refused_by true allowed h = sym (h refl)
 refused_by false allowed h = refl
 
 -- nothing may be stored behind all pages, nor at an address that is not aligned
+writable-high : (p : Pages) (a : ℕ) → 2 ^ 31 ≤ a → (memory_of p).writable a ≡ false
+unfolding memory_of entry
+writable-high p a h =
+    let t : nat_lt (a / 4096) 524288 ≡ false = le-ltb (a / 4096) 524288 (omega arith) in
+    ap (λ t. is_writable (if t then slice_index_or p.table (a / 4096) Unmapped else Unmapped)) t
+
 pub store-past : (name : StoreName) (order : Order) (p : Pages) (a : ℕ) → 2 ^ 31 ≤ a → false ≡ store_aligned name a && store_allowed name order (memory_of p) a
 store-past name order p a high = refused_by (store_aligned name a) (store_allowed name order (memory_of p) a) (λ aligned. store-answer name order p a aligned ∙ writable-high p a high)
 

@@ -33,12 +33,6 @@ byte-high p a h =
     (option_map (λ k. (a + k) % 2 ^ 32)
     (shift_of (if t then slice_index_or p.table (a / 4096) Unmapped else Unmapped)))) t
 
-pub writable-high : (p : Pages) (a : ℕ) → 2 ^ 31 ≤ a → (memory_of p).writable a ≡ false
-unfolding memory_of entry
-writable-high p a h =
-    let t : nat_lt (a / 4096) 524288 ≡ false = le-ltb (a / 4096) 524288 (omega arith) in
-    ap (λ t. is_writable (if t then slice_index_or p.table (a / 4096) Unmapped else Unmapped)) t
-
 pub byte-past : (p : Pages) (a : ℕ) → 2 ^ 32 ≤ a → (memory_of p).byte a ≡ None
 byte-past p a h = byte-high p a (omega (arith, h))
 
