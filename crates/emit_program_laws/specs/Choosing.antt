@@ -14,7 +14,8 @@ use Rattle.trampoline_laws.specs.Classes.{CodeClass, is_span}
 use Rattle.trampoline_laws.specs.Programs.{IsTranslated}
 use Rattle.emit_loading_laws.specs.Made.{HasBegun}
 use Rattle.emit_program_laws.specs.Going.{ComesTo}
-use Rattle.emit_program_laws.specs.Standing.{IsGuest, IsStray, AtChoose, AtRun, AtWord, AtReturn, AtMissing, EndsStray, EndsSpent}
+use Rattle.emit_program_laws.specs.Entered.{IsGuest}
+use Rattle.emit_program_laws.specs.Standing.{IsStray, AtChoose, AtRun, AtWord, AtReturn, AtMissing, EndsStray, EndsSpent}
 
 -- ---- from the methods that choose
 

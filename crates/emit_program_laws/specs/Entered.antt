@@ -1,5 +1,5 @@
 -- A translated program that its host enters where a guest stands.
-use Rattle.std.specs.Prelude.{◌≡◌, ℕ, ◌*◌, false, List, [], ◌∷◌, Option}
+use Rattle.std.specs.Prelude.{◌≡◌, ℕ, ◌*◌, true, false, List, [], ◌∷◌, Option, None}
 use Rattle.run_definition.specs.Words.{IsWord}
 use Rattle.run_definition.specs.declared.order.Order.{Order}
 use Rattle.run_definition.specs.Answer.{Answer, next_answer}
@@ -13,10 +13,9 @@ use Rattle.jvm_definition.specs.Program.{Program}
 use Rattle.jvm_definition.specs.Effect.{Workspace}
 use Rattle.jvm_definition.specs.Step.{JvmState, entered_frame, jvm_turn}
 use Rattle.emit_layout.specs.FieldNumbers.{pc_field}
-use Rattle.emit_program_laws.specs.SpanCodeLaws.Pieces.{HoldsAll}
+use Rattle.emit_simulation_laws.specs.Holding.{HoldsOn}
 use Rattle.emit_program_laws.specs.TrampolineLaws.Classes.{CodeClass}
 use Rattle.emit_program_laws.specs.TrampolineLaws.Programs.{IsTranslated}
-use Rattle.emit_program_laws.specs.Standing.{IsGuest}
 
 -- a method is entered without arguments, over nothing else
 abbrev pub entered_over : ℕ → (ℕ → Value) → Heap → JvmState
@@ -35,14 +34,22 @@ work_over method fields heap = record {
   heap = heap;
 }
 
+-- A guest with this order of bytes and this code has begun, and no branch is pending.
+pub record IsGuest (order : Order) (code : ℕ → Option ℕ) (t : guest.State) : Type 0 where
+  pub begun : t.begun ≡ true
+  pub pending : t.pending ≡ None
+  pub order_is : t.order ≡ order
+  pub code_is : t.code ≡ code
+
 -- Fields and arrays hold a state of a guest with this order of bytes and this code, between two of
 -- its instructions.
 pub record HoldsGuest (order : Order) (code : ℕ → Option ℕ) (choose : ℕ) (fields : ℕ → Value)
     (heap : Heap) (t : guest.State) : Type 0 where
   -- its first call was answered, and no branch is pending
   pub guest_is : IsGuest order code t
-  -- the registers, HI, LO and the link of LL are in fields, and the memory is behind the tables
-  pub held : HoldsAll (work_over choose fields heap) t
+  -- the registers (none is in a local variable, and each is known), HI, LO and the link of LL are in
+  -- fields, and the memory is behind the tables
+  pub held : HoldsOn 0 (λ r. true) (work_over choose fields heap) t
   -- so is the address at which it stands
   pub pc_is : fields pc_field ≡ int t.pc
   pub pc_word : IsWord t.pc

@@ -8,7 +8,8 @@ use Rattle.emit_spans.specs.Neighbours as words
 use Rattle.emit_spans.specs.Pieces.{begins}
 use Rattle.trampoline_laws.specs.Classes.{CodeClass, span_words}
 use Rattle.trampoline_laws.specs.Programs.{IsInClass}
-use Rattle.emit_program_laws.specs.Standing.{AtWord, IsGuest}
+use Rattle.emit_program_laws.specs.Entered.{IsGuest}
+use Rattle.emit_program_laws.specs.Standing.{AtWord}
 
 -- Where the guest's state is marked, no branch is pending, and a piece begins with the word at which it stands.
 pub record MarksPieces (classes : List CodeClass) (marked : guest.State → Bool) : Type 0 where

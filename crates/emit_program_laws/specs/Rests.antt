@@ -12,7 +12,8 @@ use Rattle.jvm_definition.specs.Step.{JvmState, Frame}
 use Rattle.emit_spans_laws.specs.GuestFollows.Sites.{stands}
 use Rattle.emit_spans_laws.specs.InPieces.{StandsInPiece, offset_in}
 use Rattle.trampoline_laws.specs.Classes.{CodeClass, is_span, span_words}
-use Rattle.emit_program_laws.specs.Standing.{IsGuest, IsBelow, AtChoose, AtRun, AtWord, span_site}
+use Rattle.emit_program_laws.specs.Entered.{IsGuest}
+use Rattle.emit_program_laws.specs.Standing.{IsBelow, AtChoose, AtRun, AtWord, span_site}
 
 -- The classes stand in a piece, before a unit that is not its first: those before it are done, and the rest follows.
 pub record AtUnit (program : Program) (words : ℕ) (order : Order) (classes : List CodeClass)

@@ -21,16 +21,10 @@ use Rattle.emit_spans_laws.specs.Spans.{StandsAt}
 use Rattle.meter_laws.specs.Meters.{spent_fault}
 use Rattle.trampoline_laws.specs.Coming.{stray_fault}
 use Rattle.trampoline_laws.specs.Classes.{CodeClass, run_of, span_words, is_span}
+use Rattle.emit_program_laws.specs.Entered.{IsGuest}
 use Rattle.emit_program_laws.specs.Going.{Waits}
 
 -- ---- the guest
-
--- A guest with this order of bytes and this code has begun, and no branch is pending.
-pub record IsGuest (order : Order) (code : ℕ → Option ℕ) (t : guest.State) : Type 0 where
-  pub begun : t.begun ≡ true
-  pub pending : t.pending ≡ None
-  pub order_is : t.order ≡ order
-  pub code_is : t.code ≡ code
 
 -- no word can be fetched from an address
 abbrev pub IsStray : (ℕ → Option ℕ) → Address → Type 0

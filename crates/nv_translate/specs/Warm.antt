@@ -38,12 +38,13 @@ use Rattle.emit_program_laws.specs.SpanCodeLaws.Registers.{AtMostOnce, lines_bet
 use Rattle.emit_program_laws.specs.SpanCodeLaws.Resuming.{FollowsInSpan, IsAtRest, Resumes, jumps_by_register}
 use Rattle.emit_program_laws.specs.TrampolineLaws.Classes.{CodeClass, address, span_at, span_words}
 use Rattle.emit_program_laws.specs.TrampolineLaws.Programs.{IsTranslated}
-use Rattle.emit_program_laws.specs.Standing.{IsGuest, span_site}
+use Rattle.emit_program_laws.specs.Entered.{IsGuest}
+use Rattle.emit_program_laws.specs.Standing.{span_site}
 use Rattle.translate_classes.specs.Blocks.{is_slot}
 use Rattle.translate_program.specs.declared.block_info.BlockInfo.{BlockInfo}
 use Rattle.translate_program.specs.declared.layout.Layout.{Layout}
 use Rattle.translate_program.specs.declared.span_info.SpanInfo.{SpanInfo}
-use Rattle.translate_program.specs.Bounds.{allow, need}
+use Rattle.translate_program.specs.Files.{allow, need}
 use Rattle.nv_translate.specs.Counts.{span_number}
 use Rattle.nv_translate.specs.Staying.{Stays}
 

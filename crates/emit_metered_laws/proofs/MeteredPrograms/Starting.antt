@@ -15,7 +15,7 @@ use Rattle.emit_loading_laws.specs.Metered.{HasBegunByMeter, LoadsByMeter, Meter
 use Rattle.meter.specs.Guards.{left_field}
 use Rattle.trampoline_laws.specs.Classes.{is_span}
 use Rattle.emit_program_laws.specs.Choosing.{BegunProgramsChoose}
-use Rattle.emit_program_laws.specs.Standing.{IsGuest}
+use Rattle.emit_program_laws.specs.Entered.{IsGuest}
 use Rattle.emit_program_laws.specs.Translated.{TranslatedProgram, guest_start}
 use Rattle.emit_metered_laws.specs.Metering.{spent}
 use Rattle.emit_metered_laws.specs.Programs.{IsMeteredProgram, LoadsByMeterWithin, MeteredProgram, resting}

@@ -16,7 +16,8 @@ use Rattle.trampoline_laws.specs.Classes.{CodeClass, is_span}
 use Rattle.trampoline_laws.specs.Coming.{stray_fault}
 use Rattle.trampoline_laws.specs.Programs.{IsTranslated}
 use Rattle.emit_program_laws.specs.Choosing.{ComesToMissing}
-use Rattle.emit_program_laws.specs.Standing.{AtMissing, IsGuest, IsStray}
+use Rattle.emit_program_laws.specs.Entered.{IsGuest}
+use Rattle.emit_program_laws.specs.Standing.{AtMissing, IsStray}
 use Rattle.emit_metered_laws.specs.Metering.{HasLeftIn, RestsByMeter, spent, unit_address}
 use Rattle.emit_metered_laws.proofs.MeteredPrograms.Given.{BetweenLaws}
 use Rattle.emit_metered_laws.proofs.MeteredPrograms.Left.{left-then, left-there}

@@ -14,7 +14,8 @@ use Rattle.trampoline_laws.specs.Programs.{IsTranslated}
 use Rattle.trampoline_laws.proofs.TrampolineLaws.Elements.{all-at}
 use Rattle.emit_program_laws.specs.Choosing.{ChoosesWords, ComesToMissing, ComesToWord}
 use Rattle.emit_program_laws.specs.Rests.{AtUnit, Rests, StandsSomewhere}
-use Rattle.emit_program_laws.specs.Standing.{IsGuest, IsStray}
+use Rattle.emit_program_laws.specs.Entered.{IsGuest}
+use Rattle.emit_program_laws.specs.Standing.{IsStray}
 use Rattle.emit_program_laws.proofs.TurnLaws.Law.{follows-wider}
 use Rattle.emit_metered_laws.specs.Metering.{HasLeftIn, RestsByMeter, spent}
 use Rattle.emit_metered_laws.proofs.MeteredPrograms.Given.{BetweenLaws, UnitLaws, WordLaws}

@@ -37,7 +37,8 @@ use Rattle.trampoline_laws.specs.Classes.{CodeClass, is_span, span_words}
 use Rattle.trampoline_laws.specs.Programs.{IsTranslated, StandsInProgram}
 use Rattle.trampoline_laws.proofs.TrampolineLaws.Elements.{all-at}
 use Rattle.emit_metered_laws.specs.Leaving.{LeavingInSpan}
-use Rattle.emit_program_laws.specs.Standing.{AtWord, IsBelow, IsGuest, span_site, word_entry}
+use Rattle.emit_program_laws.specs.Entered.{IsGuest}
+use Rattle.emit_program_laws.specs.Standing.{AtWord, IsBelow, span_site, word_entry}
 use Rattle.emit_program_laws.proofs.TurnLaws.Following.{ForEach}
 use Rattle.emit_program_laws.proofs.TurnLaws.Guest.{UnitMade, unit-made}
 use Rattle.emit_program_laws.proofs.TurnLaws.Resting.{at-return, each-of, rests-at-run, rests-at-word, unit-there}

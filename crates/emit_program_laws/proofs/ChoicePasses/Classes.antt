@@ -28,7 +28,8 @@ use Rattle.trampoline_laws.specs.Weights.{beside_calls}
 use Rattle.trampoline_laws.specs.Classes.{CodeClass, address, end_of, run_of, span_at, span_words, span_starts, starts_of, is_span}
 use Rattle.trampoline_laws.specs.Programs.{IsTranslated, StandsInProgram}
 use Rattle.emit_program_laws.specs.Going.{ComesTo, Waits, with_frame, work_of}
-use Rattle.emit_program_laws.specs.Standing.{IsGuest, StandsChoosing, AtChoose, AtRun, AtWord, span_site, word_entry}
+use Rattle.emit_program_laws.specs.Entered.{IsGuest}
+use Rattle.emit_program_laws.specs.Standing.{StandsChoosing, AtChoose, AtRun, AtWord, span_site, word_entry}
 use Rattle.emit_program_laws.proofs.ChoicePasses.Given.{CodeLaws, ChooserLaws, MissingLaws, SpanLaws, ClassLaws, ProgramLaws}
 use Rattle.emit_program_laws.proofs.ChoicePasses.Starts.{class-starts, main-starts, stands-in}
 use Rattle.emit_program_laws.proofs.ChoicePasses.Going.{Moves, Leads, moves-path, moves-so, leads-then, comes-so}

@@ -15,7 +15,7 @@ use Rattle.trampoline_laws.specs.Classes.{is_span}
 use Rattle.emit_loading_laws.specs.Loaded.{memory_turns}
 use Rattle.emit_loading_laws.specs.Made.{Begins, HasBegun, Loads, begun_at}
 use Rattle.emit_loading_laws.proofs.LoadingCodeLaws.Runs.{loads-in-runs}
-use Rattle.emit_program_laws.specs.Standing.{IsGuest}
+use Rattle.emit_program_laws.specs.Entered.{IsGuest}
 use Rattle.emit_program_laws.specs.Counted.{weight, pair}
 use Rattle.emit_program_laws.specs.Rests.{Rests}
 use Rattle.emit_program_laws.specs.Translated.{TranslatedProgram, IsTranslatedProgram, LoadsWithin, guest_start}

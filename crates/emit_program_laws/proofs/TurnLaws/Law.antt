@@ -14,7 +14,8 @@ use Rattle.trampoline_laws.specs.Classes.{CodeClass, is_span, run_of}
 use Rattle.trampoline_laws.specs.Programs.{IsTranslated, TellsSpans}
 use Rattle.emit_program_laws.specs.Going.{ComesTo}
 use Rattle.emit_program_laws.specs.Choosing.{ChoosesWords, ComesToMissing}
-use Rattle.emit_program_laws.specs.Standing.{IsGuest, IsStray, AtChoose, AtMissing, AtRun, AtWord, EndsStray}
+use Rattle.emit_program_laws.specs.Entered.{IsGuest}
+use Rattle.emit_program_laws.specs.Standing.{IsStray, AtChoose, AtMissing, AtRun, AtWord, EndsStray}
 use Rattle.emit_program_laws.specs.Counted.{Counted, paid, credit, pair}
 use Rattle.emit_program_laws.specs.Rests.{AtUnit, Rests, StandsSomewhere}
 use Rattle.emit_program_laws.specs.Marks.{MarksPieces}

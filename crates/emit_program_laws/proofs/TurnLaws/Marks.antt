@@ -13,7 +13,8 @@ use Rattle.trampoline_laws.specs.Classes.{CodeClass, is_span, span_words}
 use Rattle.trampoline_laws.specs.Programs.{IsTranslated}
 use Rattle.emit_program_laws.specs.Going.{ComesTo}
 use Rattle.emit_program_laws.specs.Choosing.{ChoosesWords}
-use Rattle.emit_program_laws.specs.Standing.{AtWord, IsGuest, span_site}
+use Rattle.emit_program_laws.specs.Entered.{IsGuest}
+use Rattle.emit_program_laws.specs.Standing.{AtWord, span_site}
 use Rattle.emit_program_laws.specs.Counted.{pair}
 use Rattle.emit_program_laws.specs.Rests.{AtUnit, Rests, StandsSomewhere}
 use Rattle.emit_program_laws.specs.Marks.{AtPiece, MarksPieces}

@@ -17,7 +17,8 @@ use Rattle.emit_spans_laws.specs.GuestFollows.Sites.{Site, stands}
 use Rattle.emit_spans_laws.specs.GuestCodeLaws.Steps.{LeadsToWords}
 use Rattle.emit_spans_laws.specs.Resuming.{StandsAtReturn, StandsAtWord}
 use Rattle.trampoline_laws.specs.Classes.{CodeClass, is_span, span_words}
-use Rattle.emit_program_laws.specs.Standing.{AtReturn, AtRun, IsBelow, IsGuest, span_site}
+use Rattle.emit_program_laws.specs.Entered.{IsGuest}
+use Rattle.emit_program_laws.specs.Standing.{AtReturn, AtRun, IsBelow, span_site}
 use Rattle.emit_program_laws.specs.Rests.{Rests}
 use Rattle.emit_program_laws.proofs.TurnLaws.Following.{ForEach}
 

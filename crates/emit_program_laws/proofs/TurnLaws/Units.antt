@@ -36,7 +36,8 @@ use Rattle.emit_spans_laws.specs.InPieces.{HasUnit, StandsInPiece, fetching, kno
 use Rattle.trampoline_laws.proofs.TrampolineLaws.Elements.{all-at}
 use Rattle.trampoline_laws.specs.Classes.{CodeClass, is_span, span_words, counted_span, counted_spans}
 use Rattle.trampoline_laws.specs.Programs.{IsTranslated}
-use Rattle.emit_program_laws.specs.Standing.{IsGuest, IsBelow, span_site, word_entry}
+use Rattle.emit_program_laws.specs.Entered.{IsGuest}
+use Rattle.emit_program_laws.specs.Standing.{IsBelow, span_site, word_entry}
 use Rattle.emit_program_laws.specs.Counted.{Counted, Reads, Chars, Switches, Entries, weight, paid, credit, pair}
 use Rattle.emit_program_laws.specs.Rests.{Rests}
 use Rattle.emit_program_laws.specs.Marks.{MarksPieces}

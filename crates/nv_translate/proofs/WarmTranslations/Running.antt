@@ -29,7 +29,7 @@ use Rattle.emit_program_laws.specs.TrampolineLaws.Classes.{CodeClass, HasClass, 
 use Rattle.emit_program_laws.specs.TrampolineLaws.Programs.{IsTranslated}
 use Rattle.emit_program_laws.proofs.TrampolineLaws.Elements.{all-at}
 use Rattle.emit_program_laws.proofs.TrampolineLaws.Words.{span-end}
-use Rattle.emit_program_laws.specs.Standing.{IsGuest}
+use Rattle.emit_program_laws.specs.Entered.{IsGuest}
 use Rattle.translate_program.specs.declared.block_info.BlockInfo.{BlockInfo}
 use Rattle.translate_program.specs.declared.layout.Layout.{Layout}
 use Rattle.nv_translate.specs.Warm.{IsPieceOf, AtBlock, Follows, GoesOn, IsAlone, RunsWarm, code_of, last_unit, method_of, own_units, site_of, span_of, LeavesGuest, Matches}
