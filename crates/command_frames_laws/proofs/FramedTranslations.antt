@@ -8,7 +8,7 @@ use Rattle.elf_definition.specs.Loading.{start_of}
 use Rattle.elf_definition.specs.Start.{Source, image_of}
 use Rattle.class_definition.specs.declared.class.Class.{Class}
 use Rattle.class_definition.specs.ClassFile.{Spells}
-use Rattle.translate_program.specs.Bounds.{allow}
+use Rattle.translate_program.specs.Files.{allow}
 use Rattle.translate_program.specs.declared.named_file.NamedFile.{NamedFile}
 use Rattle.nv_translate.specs.Translated.{Translated}
 use Rattle.stackmap_laws.specs.Framed.{AreFramed}

@@ -21,7 +21,7 @@ use Rattle.jvm_definition.specs.Program.{Program}
 use Rattle.jvm_definition.specs.Step.{jvm_start, jvm_turn, loaded_program, loaded_turn}
 use Rattle.emit_paths_laws.specs.Classes.{IsRunLoaded}
 use Rattle.emit_paths_laws.proofs.Loaded.{loaded_run}
-use Rattle.translate_program.specs.Bounds.{meter_allow, need}
+use Rattle.translate_program.specs.Files.{meter_allow, need}
 use Rattle.nv_translate.specs.Metered.{StopsByItsMeter}
 
 pub going_or_not : (o : Outcome) → (o ≡ Going) ⊎ (o ≢ Going)

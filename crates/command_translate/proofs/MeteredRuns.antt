@@ -21,7 +21,7 @@ use Rattle.meter.specs.Guards.{spent_kind}
 use Rattle.emit_metered_laws.specs.Metering.{spent}
 use Rattle.jvm_definition.specs.Step.{loaded_program, loaded_turn}
 use Rattle.class_definition.specs.Linking.{program_of}
-use Rattle.translate_program.specs.Bounds.{need}
+use Rattle.translate_program.specs.Files.{need}
 use Rattle.translate_program.specs.declared.named_file.NamedFile.{NamedFile}
 use Rattle.nv_translate.proofs.EndedRuns.{system_fits}
 use Rattle.nv_translate.specs.Metered.{TranslatedMetered}
@@ -37,8 +37,7 @@ use Rattle.command_translate.proofs.MeterLemmas.{going_or_not, metered_over}
 use Rattle.command_translate.proofs.RunLemmas.{arriving_fits, program_faults_so, program_traps_not, system, trap_told}
 use Rattle.command_translate.specs.Held.{IsDueOfHeldMetered, IsDueOfHeldRun}
 use Rattle.command_translate.specs.Metered.{IsDueOfMetered, allowed_by_meter, by_meter, ended_by_meter, metered_run, said_by_meter, told_by_meter}
-use Rattle.command_translate.specs.Runs.{classes_for, program_for}
-use Rattle.command_translate.specs.Stores.{IsDueBehind, after_stores}
+use Rattle.command_translate.specs.Stores.{classes_for, program_for, IsDueBehind, after_stores}
 
 -- ---- answers
 

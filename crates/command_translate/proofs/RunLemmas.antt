@@ -17,7 +17,7 @@ use Rattle.unix_calls.specs.Arriving.{Arriving, arrived, arriving, reply_arrivin
 use Rattle.elf_definition.specs.Loading.{start_of}
 use Rattle.jvm_definition.specs.Step.{loaded_program, loaded_turn}
 use Rattle.class_definition.specs.Linking.{program_of}
-use Rattle.translate_program.specs.Bounds.{allow, need}
+use Rattle.translate_program.specs.Files.{allow, need}
 use Rattle.translate_program.specs.declared.named_file.NamedFile.{NamedFile}
 use Rattle.nv_translate.proofs.EndedRuns.{back, forth, system_fits}
 use Rattle.nv_translate.specs.Translated.{EndsAs, Translated}
@@ -31,8 +31,7 @@ use Rattle.command_deeds.specs.Runs.{GivenFile, Plan, answer_of, arguments_of, o
 use Rattle.mips_decode.proofs.GuestEnds.{guest-untrapped}
 use Rattle.command_translate.specs.Go.{IsDueOfTranslated}
 use Rattle.command_translate.specs.Make.{classes_end, interp_end, made_name}
-use Rattle.command_translate.specs.Runs.{classes_for, program_for}
-use Rattle.command_translate.specs.Stores.{after_stores}
+use Rattle.command_translate.specs.Stores.{classes_for, program_for, after_stores}
 
 -- a trap is told of a run that ended in one
 abbrev dones : Option CommandAnswer → Option Done

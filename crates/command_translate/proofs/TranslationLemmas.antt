@@ -7,7 +7,7 @@ use Rattle.command_words.specs.declared.named.Named.{Named}
 use Rattle.command_words.specs.declared.pages.Pages.{Pages}
 use Rattle.elf_definition.specs.Start.{Source, image_of}
 use Rattle.translate_program.specs.declared.named_file.NamedFile.{NamedFile}
-use Rattle.translate_program.specs.Bounds.{need}
+use Rattle.translate_program.specs.Files.{need}
 use Rattle.nv_translate.specs.Metered.{TranslatedMetered}
 use Rattle.nv_translate.specs.Translated.{Translated}
 use Rattle.command_deeds.specs.Checks.{file_that_is_named}

@@ -7,7 +7,7 @@ use Rattle.command_words.specs.declared.pages.Pages.{Pages}
 use Rattle.elf_definition.specs.Start.{Source, image_of}
 use Rattle.jvm_definition.specs.Step.{loaded_turn}
 use Rattle.class_definition.specs.declared.class.Class.{Class}
-use Rattle.translate_program.specs.Bounds.{allow}
+use Rattle.translate_program.specs.Files.{allow}
 use Rattle.translate_program.specs.declared.named_file.NamedFile.{NamedFile}
 use Rattle.nv_translate.specs.Translated.{EndsAs, Making, Translated}
 use Rattle.command_deeds.specs.Checks.{Behind, Check, after_check, file_that_is_named}
@@ -17,8 +17,7 @@ use Rattle.command_deeds.specs.Runs.{GivenFile, Plan, found_for, of_runs}
 use Rattle.command_deeds.specs.World.{World}
 use Rattle.command_guest.specs.Imaging.{IsImaged}
 use Rattle.command_translate.specs.Metered.{IsDueOfMetered}
-use Rattle.command_translate.specs.Runs.{classes_for, program_for}
-use Rattle.command_translate.specs.Stores.{after_stores}
+use Rattle.command_translate.specs.Stores.{classes_for, program_for, after_stores}
 
 -- how many instructions the program's steps allow its classes
 abbrev pub allowed : Plan → Source → ℕ

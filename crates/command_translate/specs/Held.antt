@@ -6,7 +6,7 @@ use Rattle.unix_calls.specs.Held.{Held}
 use Rattle.jvm_definition.specs.Step.{loaded_program, loaded_turn}
 use Rattle.class_definition.specs.declared.class.Class.{Class}
 use Rattle.class_definition.specs.Linking.{program_of}
-use Rattle.translate_program.specs.Bounds.{need}
+use Rattle.translate_program.specs.Files.{need}
 use Rattle.translate_program.specs.declared.named_file.NamedFile.{NamedFile}
 use Rattle.nv_translate.specs.Made.{AreMade}
 use Rattle.nv_translate.specs.Metered.{TranslatedMetered}

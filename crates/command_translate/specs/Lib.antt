@@ -1,6 +1,5 @@
 pub mod Classes
 pub mod Stores
-pub mod Runs
 pub mod Metered
 pub mod Held
 pub mod Translate

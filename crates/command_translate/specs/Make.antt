@@ -10,7 +10,7 @@ use Rattle.command_translate.specs.MadeWords.{made_words}
 use Rattle.jvm_definition.specs.Step.{loaded_program, loaded_turn}
 use Rattle.class_definition.specs.declared.class.Class.{Class}
 use Rattle.class_definition.specs.Linking.{program_of}
-use Rattle.translate_program.specs.Bounds.{allow, need}
+use Rattle.translate_program.specs.Files.{allow, need}
 use Rattle.translate_program.specs.declared.named_file.NamedFile.{NamedFile}
 use Rattle.nv_translate.specs.Made.{AreMade}
 use Rattle.nv_translate.specs.Translated.{Making, Translated}

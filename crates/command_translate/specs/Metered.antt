@@ -11,7 +11,7 @@ use Rattle.meter.specs.Guards.{spent_kind}
 use Rattle.emit_metered_laws.specs.Metering.{spent}
 use Rattle.jvm_definition.specs.Step.{loaded_turn}
 use Rattle.class_definition.specs.declared.class.Class.{Class}
-use Rattle.translate_program.specs.Bounds.{meter_allow, need}
+use Rattle.translate_program.specs.Files.{meter_allow, need}
 use Rattle.translate_program.specs.declared.named_file.NamedFile.{NamedFile}
 use Rattle.nv_translate.specs.Metered.{TranslatedMetered}
 use Rattle.nv_translate.specs.Translated.{Making}
@@ -20,8 +20,7 @@ use Rattle.command_deeds.specs.Runs.{GivenFile, Plan, played}
 use Rattle.command_deeds.specs.declared.done.Done.{Done}
 use Rattle.command_deeds.specs.declared.done.Done.TheVariants as done
 use Rattle.command_deeds.specs.declared.stop.Stop.{Stop}
-use Rattle.command_translate.specs.Runs.{classes_for, program_for}
-use Rattle.command_translate.specs.Stores.{after_stores, files_counted}
+use Rattle.command_translate.specs.Stores.{classes_for, program_for, after_stores, files_counted}
 
 -- ---- answers
 

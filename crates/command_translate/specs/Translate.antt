@@ -5,7 +5,7 @@ use Rattle.nv_values.specs.Names.{Text}
 use Rattle.command_words.specs.declared.named.Named.{Named}
 use Rattle.command_words.specs.declared.pages.Pages.{Pages}
 use Rattle.elf_definition.specs.Start.{Source, image_of}
-use Rattle.translate_program.specs.Bounds.{need}
+use Rattle.translate_program.specs.Files.{need}
 use Rattle.translate_program.specs.declared.named_file.NamedFile.{NamedFile}
 use Rattle.nv_translate.specs.Translated.{Making, Translated}
 use Rattle.command_deeds.specs.Checks.{Behind, Check, file_that_is_named}

@@ -31,7 +31,7 @@ use Rattle.command_deeds.specs.declared.stop.Stop.TheVariants.{ReadFault, WriteF
 use Rattle.command_guest.specs.Imaging.{IsImageChecked, IsImaged, elf_checked, source_of}
 use Rattle.command_translate.specs.Go.{IsDueOfGo, IsDueOfTranslated, IsDueOfTranslatedBy, allowed}
 use Rattle.command_translate.specs.Metered.{IsDueOfMetered}
-use Rattle.command_translate.specs.Runs.{classes_for, program_for}
+use Rattle.command_translate.specs.Stores.{classes_for, program_for}
 use Rattle.nested_cli.specs.Commands.{Does, plan}
 use Rattle.nested_cli.specs.Faults.{ErrFailed, Failed, OutFailed}
 use Rattle.nested_cli.specs.Laws.{AnswersAs, AnswersFor, GoIsComplete, GoesAhead, NoCountRose, Sound}

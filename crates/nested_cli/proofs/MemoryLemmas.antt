@@ -32,8 +32,7 @@ use Rattle.command_deeds.specs.declared.stop.Stop.{Stop}
 use Rattle.command_deeds.specs.declared.stop.Stop.TheVariants.{ReadFault, WriteFault, ShelfFault, NoMemory}
 use Rattle.command_translate.specs.Go.{IsDueOfTranslated, IsDueOfTranslatedBy, allowed}
 use Rattle.command_translate.specs.Metered.{IsDueOfMetered, allowed_by_meter}
-use Rattle.command_translate.specs.Runs.{classes_for, program_for}
-use Rattle.command_translate.specs.Stores.{files_stored}
+use Rattle.command_translate.specs.Stores.{classes_for, program_for, files_stored}
 use Rattle.nested_cli.specs.Commands.{Does, IsDueOf, loads_files, plan}
 use Rattle.nested_cli.specs.Laws.{RanWhole, RunsTakeNoMemory, kept_by}
 use Rattle.nested_cli.proofs.CheckLemmas.{checked-twice, not-told}

@@ -44,7 +44,7 @@ use Rattle.command_pipe.specs.declared.launch.PipeLaunch.{PipeLaunch}
 use Rattle.command_translate.specs.Go.{IsDueOfGo, IsDueOfTranslated, IsDueOfTranslatedBy, allowed}
 use Rattle.command_translate.specs.Make.{IsDueOfMake, told}
 use Rattle.command_translate.specs.Metered.{IsDueOfMetered}
-use Rattle.command_translate.specs.Runs.{classes_for, program_for}
+use Rattle.command_translate.specs.Stores.{classes_for, program_for}
 use Rattle.command_translate.specs.Translate.{IsDueOfImageBy, IsDueOfTranslate}
 use Rattle.nested_cli.specs.Commands.{Does, IsDueOf, loads_files, plan, pipe_launch}
 use Rattle.nested_cli.specs.Laws.{RefusalsLeaveAll, is_refusal}

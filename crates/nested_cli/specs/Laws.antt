@@ -26,7 +26,7 @@ use Rattle.command_deeds.specs.declared.done.Done.{Done}
 use Rattle.command_deeds.specs.declared.done.Done.TheVariants as done
 use Rattle.command_guest.specs.Imaging.{source_of}
 use Rattle.command_translate.specs.Go.{allowed}
-use Rattle.command_translate.specs.Runs.{program_for}
+use Rattle.command_translate.specs.Stores.{program_for}
 use Rattle.nv_translate.specs.Made.{AreMade}
 use Rattle.nested_cli.specs.Commands.{Does, IsDueOf, plan}
 

@@ -17,7 +17,7 @@ use Rattle.jvm_definition.specs.Program.{Program}
 use Rattle.jvm_definition.specs.Step.{JvmState, Loaded, jvm_start, jvm_turn, loaded_program, loaded_turn}
 use Rattle.emit_paths_laws.specs.Classes.{IsRunLoaded}
 use Rattle.emit_paths_laws.proofs.Loaded.{loaded_run}
-use Rattle.translate_program.specs.Bounds.{allow, need}
+use Rattle.translate_program.specs.Files.{allow, need}
 use Rattle.nv_translate.specs.Translated.{EndsAs, RunsAlike}
 
 -- an answer that the system gives fits the question

@@ -14,7 +14,7 @@ use Rattle.emit_paths_laws.specs.Classes.{reads, chars, switches, entries, execu
 use Rattle.emit_paths_laws.specs.Guest.{Span, crossings, partial}
 use Rattle.translate_program.specs.declared.layout.Layout.{Layout}
 use Rattle.translate_program.specs.declared.span_info.SpanInfo.{SpanInfo}
-use Rattle.translate_program.specs.Bounds.{need}
+use Rattle.translate_program.specs.Files.{need}
 
 -- ---- the spans of a layout, as crossings are counted by
 

@@ -14,7 +14,7 @@ use Rattle.class_definition.specs.declared.class.Class.{Class}
 use Rattle.class_definition.specs.Linking.{program_of}
 use Rattle.emit_metered_laws.specs.Metering.{spent}
 use Rattle.translate_program.specs.declared.named_file.NamedFile.{NamedFile}
-use Rattle.translate_program.specs.Bounds.{meter_allow, need}
+use Rattle.translate_program.specs.Files.{meter_allow, need}
 use Rattle.nv_translate.specs.Translated.{HoldClasses, classes_run, guest_run}
 
 -- Over every list of answers of the system, in every region that has room for the pages, and in as many instructions as are allowed or more: the

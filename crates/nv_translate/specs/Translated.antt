@@ -26,8 +26,7 @@ use Rattle.class_sets.specs.declared.loaded.Loaded.TheVariants.{Classes}
 use Rattle.emit_layout.specs.Numbers.{choose_number}
 use Rattle.emit_program_laws.specs.Entered.{entered_over, HoldsGuest}
 use Rattle.translate_program.specs.declared.named_file.NamedFile.{NamedFile}
-use Rattle.translate_program.specs.Bounds.{allow, need}
-use Rattle.translate_program.specs.Files.{named_file_name}
+use Rattle.translate_program.specs.Files.{allow, need, named_file_name}
 
 -- ---- its files
 

@@ -8,7 +8,7 @@ ghost use Rattle.emit_layout.specs.Numbers.{main_methods};
 ghost use Rattle.translate_program.specs.Classes.{Placed, AreCodeClasses};
 ghost use Rattle.translate_program.specs.DataFiles.{class_count, filled_pages, first_method};
 ghost use Rattle.translate_program.specs.declared.built.Built.{Built};
-ghost use Rattle.translate_program.specs.Bounds.{need};
+ghost use Rattle.translate_program.specs.Files.{need};
 ghost use Rattle.translate_program.specs.Translation.{code_methods};
 ghost use Rattle.nv_translate.specs.Linked.{IsLinkedBy};
 ghost use Rattle.nv_translate.specs.MappedPages.{HasMappedPages};

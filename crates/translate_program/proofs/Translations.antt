@@ -12,7 +12,7 @@ use Rattle.translate_program.specs.declared.data_files.Data.{Data}
 use Rattle.translate_program.specs.declared.named_file.NamedFile.{NamedFile}
 use Rattle.translate_program.specs.Adding.{IsCodeOf}
 use Rattle.translate_program.specs.Blocks.{blocks_of}
-use Rattle.translate_program.specs.Bounds.{need}
+use Rattle.translate_program.specs.Files.{need}
 use Rattle.translate_program.specs.Classes.{IsCodeFile, run_of}
 use Rattle.translate_program.specs.DataFiles.{IsDataOf}
 use Rattle.translate_program.specs.MainFile.{IsMainFile}

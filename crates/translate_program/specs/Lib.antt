@@ -8,7 +8,6 @@ pub mod Ranges
 pub mod Adding
 pub mod Counting
 pub mod DataFiles
-pub mod Bounds
 pub mod MainFile
 pub mod Translation
 pub mod Taking

@@ -7,7 +7,7 @@ use Rattle.translate_program.specs.Classes.{Placed, AreCodeClasses}
 use Rattle.translate_program.specs.Ranges.{AreRangesOf}
 use Rattle.translate_program.specs.DataFiles.{IsDataOf}
 use Rattle.translate_program.specs.MainFile.{IsHeadOf}
-use Rattle.translate_program.specs.Bounds.{need}
+use Rattle.translate_program.specs.Files.{need}
 use Rattle.translate_program.specs.Translation.{code_methods}
 
 -- Its ranges, what the main class has of it, its classes of data behind those of code, and what it needs.

@@ -9,7 +9,7 @@ use Rattle.translate_program.specs.Classes.{Placed, AreCodeClasses, IsCodeFile, 
 use Rattle.translate_program.specs.Blocks.{blocks_of}
 use Rattle.translate_program.specs.DataFiles.{AreDataFiles, class_count, filled_pages, fills_of}
 use Rattle.translate_program.specs.declared.built.Built.{Built}
-use Rattle.translate_program.specs.Bounds.{need}
+use Rattle.translate_program.specs.Files.{need}
 use Rattle.translate_program.specs.MainFile.{IsMainFile}
 
 -- how many methods the main class and classes of code have

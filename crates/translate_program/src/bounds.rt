@@ -1,6 +1,6 @@
 ghost use Rattle.std.specs.Prelude.{◌≡◌, ◌≤◌, ◌^◌};
 ghost use Rattle.elf_definition.specs.Start.{image_of};
-ghost use Rattle.translate_program.specs.Bounds.{need, allow, meter_allow};
+ghost use Rattle.translate_program.specs.Files.{need, allow, meter_allow};
 
 use elf_image::Image;
 use nv_values::{MeterTurns, RegionWords};

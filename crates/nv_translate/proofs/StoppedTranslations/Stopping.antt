@@ -21,7 +21,7 @@ use Rattle.emit_metered_laws.specs.Metering.{spent}
 use Rattle.emit_metered_laws.specs.Programs.{IsMeteredProgram, LoadsByMeterWithin, MeteredProgram}
 use Rattle.emit_metered_laws.specs.Running.{MeteredProgramsFollow, from_start}
 use Rattle.translate_program.specs.declared.built.Built.{Built}
-use Rattle.translate_program.specs.Bounds.{meter_allow}
+use Rattle.translate_program.specs.Files.{meter_allow}
 use Rattle.nv_translate.specs.Images.{IsImage}
 use Rattle.nv_translate.specs.Linked.{IsLinkedBy}
 use Rattle.nv_translate.specs.Loading.{LoadsSource}

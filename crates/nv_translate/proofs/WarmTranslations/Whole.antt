@@ -23,7 +23,7 @@ use Rattle.emit_program_laws.specs.Translated as runs
 use Rattle.emit_program_laws.specs.Translated.{TranslatedProgram, LoadsWithin}
 use Rattle.translate_program.specs.declared.block_info.BlockInfo.{BlockInfo}
 use Rattle.translate_program.specs.declared.built.Built.{Built}
-use Rattle.translate_program.specs.Bounds.{allow, need}
+use Rattle.translate_program.specs.Files.{allow, need}
 use Rattle.nv_translate.specs.Linked.{IsLinked}
 use Rattle.nv_translate.specs.Images.{IsImage}
 use Rattle.nv_translate.specs.Loading.{LoadsSource}

@@ -4,7 +4,7 @@ use Rattle.elf_definition.specs.Start.{image_of}
 use Rattle.jvm_definition.specs.Step.{loaded_program, loaded_turn}
 use Rattle.class_definition.specs.Linking.{program_of}
 use Rattle.jvm_machine.specs.Machine.{state_of}
-use Rattle.translate_program.specs.Bounds.{allow, need}
+use Rattle.translate_program.specs.Files.{allow, need}
 use Rattle.nv_translate.specs.Made.{AreMade}
 use Rattle.nv_translate.specs.Translated.{Translated}
 use Rattle.command_deeds.specs.declared.done.Done.{Done}

@@ -1,7 +1,7 @@
 use Rattle.std.proofs.Common.{◌∙◌, ap, inl, inr, refl, subst, sym}
 use Rattle.std.proofs.lemmas.Result.{err_from_is_err_and}
 use Rattle.elf_definition.specs.Start.{image_of}
-use Rattle.translate_program.specs.Bounds.{allow, need}
+use Rattle.translate_program.specs.Files.{allow, need}
 use Rattle.command_deeds.proofs.DeedLemmas.{same_shelf}
 use Rattle.command_deeds.specs.Ends.{WorksOn, ended}
 use Rattle.command_deeds.specs.Runs.{plan_of}

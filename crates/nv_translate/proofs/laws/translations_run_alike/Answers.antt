@@ -9,7 +9,7 @@ use Rattle.jvm_definition.specs.Program.{Program}
 use Rattle.jvm_definition.specs.Step.{jvm_start, jvm_turn}
 use Rattle.class_definition.specs.Linking.{program_of}
 use Rattle.emit_program_laws.specs.Translated.{TranslatedProgram, LoadsWithin}
-use Rattle.translate_program.specs.Bounds.{allow}
+use Rattle.translate_program.specs.Files.{allow}
 use Rattle.nv_translate.proofs.PairedTranslations.{behind_all}
 use Rattle.nv_translate.proofs.CountedTranslations.Paired.{plain, are-paired}
 use Rattle.nv_translate.proofs.laws.translations_run_alike.Goals as goal

@@ -11,7 +11,7 @@ use Rattle.jvm_run_laws.proofs.Followed.{followed-again}
 use Rattle.class_definition.specs.Linking.{program_of}
 use Rattle.jvm_link.proofs.LinkLemmas.{run_there_if}
 use Rattle.jvm_link.proofs.LinkedLaws.{linked_if}
-use Rattle.translate_program.specs.Bounds.{allow, need}
+use Rattle.translate_program.specs.Files.{allow, need}
 use Rattle.nv_translate.proofs.repeated_translations.translations_run_again.Goals as goal
 
 pub returns : goal.returns

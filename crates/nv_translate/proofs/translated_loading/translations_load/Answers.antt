@@ -12,7 +12,7 @@ use Rattle.emit_layout.specs.Numbers.{pages_number}
 use Rattle.emit_program_laws.specs.LoadingCodeLaws.Loaded.{Filler, MakesMemory, TellsRuns, run_shares, pages_told, slots_of, memory_turns}
 use Rattle.emit_program_laws.specs.LoadingCodeLaws.Made.{IsProgram}
 use Rattle.translate_classes.specs.Content.{text_runs}
-use Rattle.translate_program.specs.Bounds.{need}
+use Rattle.translate_program.specs.Files.{need}
 use Rattle.translate_program.specs.DataFiles.{fill_of, first_method}
 use Rattle.translate_program.specs.MainFile.{beginning_of}
 use Rattle.translate_program.specs.Translation.{code_methods}

@@ -1,6 +1,6 @@
 use Rattle.std.proofs.Common.{◌≡◌, length, sym, subst}
 use Rattle.elf_definition.specs.Start.{image_of}
-use Rattle.translate_program.specs.Bounds.{need}
+use Rattle.translate_program.specs.Files.{need}
 use Rattle.translate_program.specs.DataFiles.{IsDataOf}
 use Rattle.translate_program.specs.MainFile.{IsHeadOf}
 use Rattle.translate_program.specs.Ranges.{AreRangesOf}
