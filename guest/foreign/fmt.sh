@@ -1,4 +1,5 @@
 source=fmtlib
+language=C++
 
 build() {
     by_cmake -DFMT_TEST=OFF -DFMT_DOC=OFF

@@ -1,4 +1,5 @@
 source=pugixml
+language=C++
 
 build() {
     by_cmake -DBUILD_TESTING=ON -DPUGIXML_BUILD_TESTS=ON

@@ -1,4 +1,5 @@
 source=snappy
+language=C++
 
 build() {
     by_cmake -DSNAPPY_BUILD_TESTS=OFF -DSNAPPY_BUILD_BENCHMARKS=OFF

@@ -1,4 +1,5 @@
 source=yaml-cpp
+language=C++
 
 build() {
     by_cmake -DYAML_CPP_BUILD_TESTS=OFF -DYAML_CPP_BUILD_TOOLS=ON
