@@ -1,5 +1,6 @@
 // Tries C++ without exceptions: constructors and destructors of static objects, new and delete, virtual functions, templates, and the library.
 #include <algorithm>
+#include <atomic>
 #include <cstdio>
 #include <iostream>
 #include <map>
@@ -82,6 +83,18 @@ void try_library() {
     std::cout << (dynamic_cast<Disc *>(shape.get()) == nullptr) << ' ' << (dynamic_cast<Square *>(shape.get()) != nullptr) << std::endl;
 }
 
+// of 8 bytes, which the processor has no instructions for
+void try_atomics() {
+    std::atomic<long long> number(5);
+    long long expected = 12;
+    number += 7;
+    bool swapped = number.compare_exchange_strong(expected, 1LL << 40);
+    bool again = number.compare_exchange_strong(expected, 0);
+    long long before = number.exchange(-3);
+    printf("%d %d %lld %lld %lld %d\n", swapped, again, expected, before, number.fetch_and(0xff00ff), number.is_lock_free());
+    printf("%lld %lld\n", number.load(), __sync_add_and_fetch(&expected, -1));
+}
+
 }
 
 int main() {
@@ -99,6 +112,7 @@ int main() {
     placed->~Greeter();
     printf("%d %d\n", numbers[999], new (std::nothrow) char[static_cast<std::size_t>(-1) / 4] == nullptr);
     delete[] numbers;
+    try_atomics();
     std::fflush(stdout);
     try_library();
     return 0;
