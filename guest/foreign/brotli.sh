@@ -6,6 +6,6 @@ build() {
 
 try() {
     take brotli build/brotli
-    sizes=(--heap 8192)
+    sizes=(--heap 12288)
     packs brotli -q 9 -c -- -dc
 }

@@ -7,6 +7,6 @@ build() {
 
 try() {
     take xz src/xz/xz
-    sizes=(--heap 8192)
+    sizes=(--heap 12288)
     packs xz -3c -- -dc
 }
