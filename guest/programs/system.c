@@ -3,7 +3,9 @@
 #include <dlfcn.h>
 #include <errno.h>
 #include <fcntl.h>
+#include <poll.h>
 #include <pthread.h>
+#include <signal.h>
 #include <stdio.h>
 #include <stdlib.h>
 #include <string.h>
@@ -175,14 +177,52 @@ static void try_devices(void)
     expect("getentropy", getentropy(bytes, 2), 0);
 }
 
+static int polled(int fd, int events)
+{
+    struct pollfd it = { fd, (short)events, 0 };
+    return poll(&it, 1, 0) == 0 ? 0 : it.revents;
+}
+
+static void try_pipes(void)
+{
+    static char many[70000];
+    struct stat found;
+    int ends[2], copy;
+    char bytes[4] = "";
+    expect("pipe", pipe(ends), 0);
+    expect("a pipe is one", fstat(ends[0], &found) == 0 && S_ISFIFO(found.st_mode), 1);
+    expect("lseek of a pipe", error(lseek(ends[0], 0, SEEK_CUR)), ESPIPE);
+    expect("a read that would wait for ever", error(read(ends[0], bytes, 1)), EDEADLK);
+    expect("F_SETFL", fcntl(ends[0], F_SETFL, fcntl(ends[0], F_GETFL) | O_NONBLOCK), 0);
+    expect("F_GETFL", fcntl(ends[0], F_GETFL), O_RDONLY | O_NONBLOCK);
+    expect("a read of nothing", error(read(ends[0], bytes, 1)), EAGAIN);
+    expect("poll of nothing", polled(ends[0], POLLIN), 0);
+    expect("a write to the end that is read", error(write(ends[0], "x", 1)), EBADF);
+    expect("a write", write(ends[1], "abcd", 4), 4);
+    expect("poll", polled(ends[0], POLLIN), POLLIN);
+    expect("a read", read(ends[0], bytes, 3) == 3 && memcmp(bytes, "abc", 3) == 0, 1);
+    copy = dup(ends[1]);
+    close(ends[1]);
+    expect("a write of much", write(copy, many, sizeof many), 65535);
+    expect("poll of a full pipe", polled(copy, POLLOUT), 0);
+    expect("a write that would wait for ever", error(write(copy, "x", 1)), EDEADLK);
+    close(copy);
+    expect("a read of what is left", read(ends[0], many, sizeof many), 65536);
+    expect("the end", read(ends[0], bytes, 1), 0);
+    close(ends[0]);
+    expect("pipe2", pipe2(ends, O_CLOEXEC | O_NONBLOCK), 0);
+    close(ends[0]);
+    signal(SIGPIPE, SIG_IGN);
+    expect("a write that nobody reads", error(write(ends[1], "x", 1)), EPIPE);
+    close(ends[1]);
+}
+
 static void try_missing(void)
 {
-    int ends[2];
     pthread_t thread;
     expect("mkdir", error(mkdir("d", 0777)), ENOSYS);
     expect("link", error(link("x", "l")), ENOSYS);
     expect("symlink", error(symlink("x", "l")), ENOSYS);
-    expect("pipe", error(pipe(ends)), ENOSYS);
     expect("fork", error(fork()), ENOSYS);
     expect("opendir", opendir("/") == 0 ? errno : 0, ENOSYS);
     expect("a shared mapping", error((long)mmap(0, 4096, PROT_READ | PROT_WRITE, MAP_SHARED, 0, 0)), ENODEV);
@@ -203,6 +243,7 @@ int main(void)
     try_descriptors();
     try_memory_and_time();
     try_devices();
+    try_pipes();
     try_missing();
     printf("%d tried, %d failed\n", tried, failed);
     return failed != 0;

@@ -61,6 +61,9 @@ void nested_set_folder_path(int fd, char *path);
 /* What a host tells of a file or folder of this name, in addition to what is there: whether it told. -1 is a refusal, with errno. */
 int nested_host_stat(const char *prefix, const char *name, struct stat *into);
 
+/* What poll answers of a descriptor that is in use. */
+int nested_ready(int fd);
+
 /* Random bytes: from the host, or else from the generator that the environment has a seed for. 0, or -1 with errno. */
 int nested_random(void *into, size_t bytes);
 int nested_has_seed(void);

@@ -1,9 +1,11 @@
 /* Files, and the descriptors that stand for them. */
 #include "call.h"
 #include "host.h"
+#include "pipes.h"
 
 #include <errno.h>
 #include <fcntl.h>
+#include <poll.h>
 #include <stdarg.h>
 #include <stdlib.h>
 #include <string.h>
@@ -16,10 +18,12 @@ struct descriptor {
     unsigned char flags;                /* the access and O_APPEND */
     unsigned char side;                 /* of a side of the console, 1 more than its number */
     unsigned char device;               /* what the library answers itself */
-    unsigned short number;
+    unsigned short number;              /* of a pipe, that of the end */
 };
 
-enum { NO_DEVICE, DEVICE_NULL, DEVICE_ZERO, DEVICE_RANDOM, DEVICE_FOLDER };
+enum { NO_DEVICE, DEVICE_NULL, DEVICE_ZERO, DEVICE_RANDOM, DEVICE_FOLDER, DEVICE_PIPE };
+
+const struct nested_pipes *nested_pipes;
 
 #define KEPT_FLAGS (O_ACCMODE | O_APPEND)
 
@@ -63,6 +67,16 @@ static int open_file(const char *name, int flags)
     if (fd >= 0)
         descriptors[fd] = (struct descriptor){ flags & KEPT_FLAGS, 0, NO_DEVICE, nested_number(name) };
     return (int)fd;
+}
+
+int nested_open_end(unsigned end)
+{
+    int fd = open_device(DEVICE_PIPE, end % 2 == 0 ? O_RDONLY : O_WRONLY);
+    if (fd >= 0) {
+        descriptors[fd].number = (unsigned short)end;
+        nested_pipes->share(end);
+    }
+    return fd;
 }
 
 /* Random bytes come from the host, or where it has none from a generator, if the environment has a seed for it. */
@@ -141,6 +155,8 @@ int close(int fd)
     if (answer == 0) {
         if (device_of(fd) == DEVICE_FOLDER)
             nested_set_folder_path(fd, 0);
+        if (device_of(fd) == DEVICE_PIPE)
+            nested_pipes->leave(descriptors[fd].number);
         descriptors[fd] = (struct descriptor){ 0, 0, 0, 0 };
     }
     return (int)answer;
@@ -159,6 +175,8 @@ _READ_WRITE_RETURN_TYPE read(int fd, void *into, size_t bytes)
     case DEVICE_FOLDER:
         errno = EISDIR;
         return -1;
+    case DEVICE_PIPE:
+        return nested_pipes->read(descriptors[fd].number, into, bytes);
     default:
         return nested_answer(nested_call(CALL_READ, fd, (long)into, (long)bytes));
     }
@@ -166,6 +184,8 @@ _READ_WRITE_RETURN_TYPE read(int fd, void *into, size_t bytes)
 
 _READ_WRITE_RETURN_TYPE write(int fd, const void *from, size_t bytes)
 {
+    if (device_of(fd) == DEVICE_PIPE)
+        return nested_pipes->write(descriptors[fd].number, from, bytes);
     if (device_of(fd) != NO_DEVICE && may_write(fd))
         return (_READ_WRITE_RETURN_TYPE)bytes;
     return nested_answer(nested_call(CALL_WRITE, fd, (long)from, device_of(fd) != NO_DEVICE ? 0 : (long)bytes));
@@ -173,6 +193,10 @@ _READ_WRITE_RETURN_TYPE write(int fd, const void *from, size_t bytes)
 
 off_t lseek(int fd, off_t offset, int whence)
 {
+    if (device_of(fd) == DEVICE_PIPE) {
+        errno = ESPIPE;
+        return -1;
+    }
     if (device_of(fd) != NO_DEVICE)
         return 0;
     return nested_answer(nested_call(CALL_LSEEK, fd, offset, whence));
@@ -213,6 +237,8 @@ int dup(int fd)
     descriptors[made] = descriptors[fd];
     if (device_of(fd) == DEVICE_FOLDER)
         nested_set_folder_path((int)made, strdup(nested_folder_path(fd)));
+    if (device_of(fd) == DEVICE_PIPE)
+        nested_pipes->share(descriptors[fd].number);
     return (int)made;
 }
 
@@ -261,6 +287,19 @@ static int dup_by_word(int fd, long least)
     return dup_from(fd, (int)least);
 }
 
+/* What may be set of a descriptor means something to pipes alone. */
+static int set_flags(int fd, long flags)
+{
+    if (device_of(fd) == DEVICE_PIPE)
+        *nested_pipes->flags(descriptors[fd].number) = flags & O_NONBLOCK;
+    return 0;
+}
+
+static int flags_of(int fd)
+{
+    return (descriptors[fd].flags & KEPT_FLAGS) | (device_of(fd) == DEVICE_PIPE ? *nested_pipes->flags(descriptors[fd].number) : 0);
+}
+
 /* There is one process, so a lock is always free, and there is no other program for which a descriptor would be closed. */
 int fcntl(int fd, int command, ...)
 {
@@ -277,13 +316,14 @@ int fcntl(int fd, int command, ...)
     case F_DUPFD_CLOEXEC:
         return dup_by_word(fd, word);
     case F_GETFL:
-        return descriptors[fd].flags & KEPT_FLAGS;
+        return flags_of(fd);
+    case F_SETFL:
+        return set_flags(fd, word);
     case F_GETLK:
         ((struct flock *)word)->l_type = F_UNLCK;
         return 0;
     case F_GETFD:
     case F_SETFD:
-    case F_SETFL:
     case F_SETLK:
     case F_SETLKW:
         return 0;
@@ -297,6 +337,12 @@ int flock(int fd, int operation)
 {
     (void)operation;
     return is_open(fd) ? 0 : -1;
+}
+
+/* A pipe is ready or not; others are always. */
+int nested_ready(int fd)
+{
+    return device_of(fd) == DEVICE_PIPE ? nested_pipes->ready(descriptors[fd].number) : POLLIN | POLLOUT;
 }
 
 /*
@@ -336,7 +382,7 @@ int fstat(int fd, struct stat *into)
     if (nested_answer(nested_call(CALL_FSTAT, fd, (long)words, 0)) < 0)
         return -1;
     if ((device_of(fd) != NO_DEVICE && device_of(fd) != DEVICE_FOLDER) || words[0] == 2) {
-        describe(into, S_IFCHR | 0666, OF_CONSOLE, descriptors[fd].side);
+        describe(into, (device_of(fd) == DEVICE_PIPE ? S_IFIFO : S_IFCHR) | 0666, OF_CONSOLE, descriptors[fd].side);
         return 0;
     }
     describe(into, S_IFREG | 0666, OF_FILES, descriptors[fd].number);

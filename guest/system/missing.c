@@ -59,16 +59,6 @@ int _execve(const char *path, char *const *words, char *const *environment)
     return nested_missing();
 }
 
-int pipe(int into[2])
-{
-    return nested_missing();
-}
-
-int pipe2(int into[2], int flags)
-{
-    return nested_missing();
-}
-
 /* newlib's own functions are made of execve, these are not there */
 int execvpe(const char *name, char *const words[], char *const environment[])
 {

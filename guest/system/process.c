@@ -154,14 +154,14 @@ int getrlimit(int resource, struct rlimit *into)
     return 0;
 }
 
-/* ---- waiting: each descriptor is ready, since a read of input waits for itself */
+/* ---- waiting: each descriptor but those of pipes is ready, since a read of input waits for itself */
 
 int poll(struct pollfd *descriptors, nfds_t count, int timeout)
 {
     int ready = 0;
     (void)timeout;
     for (nfds_t i = 0; i < count; i++) {
-        descriptors[i].revents = descriptors[i].fd < 0 ? 0 : descriptors[i].events & (POLLIN | POLLOUT);
+        descriptors[i].revents = descriptors[i].fd < 0 ? 0 : nested_ready(descriptors[i].fd) & (descriptors[i].events | POLLHUP | POLLERR);
         ready += descriptors[i].revents != 0;
     }
     return ready;
@@ -179,12 +179,23 @@ int ppoll(struct pollfd *descriptors, nfds_t count, const struct timespec *timeo
     return poll(descriptors, count, 0);
 }
 
+/* Whether it is in the set and ready, and it stays there only then */
+static int keep_ready(int fd, fd_set *set, int events)
+{
+    if (set == 0 || !FD_ISSET(fd, set))
+        return 0;
+    if ((nested_ready(fd) & events) != 0)
+        return 1;
+    FD_CLR(fd, set);
+    return 0;
+}
+
 int select(int count, fd_set *readable, fd_set *writable, fd_set *urgent, struct timeval *timeout)
 {
     int ready = 0;
     (void)timeout;
     for (int fd = 0; fd < count; fd++)
-        ready += (readable != 0 && FD_ISSET(fd, readable)) + (writable != 0 && FD_ISSET(fd, writable));
+        ready += keep_ready(fd, readable, POLLIN | POLLHUP) + keep_ready(fd, writable, POLLOUT | POLLERR);
     if (urgent != 0)
         FD_ZERO(urgent);
     return ready;
