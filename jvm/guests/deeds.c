@@ -52,6 +52,20 @@ static int copy(const char *from, const char *to) {
     return syscall3(CLOSE, out, 0, 0);
 }
 
+/* the first byte of a file, the second one by another descriptor when the file has lost its name, and how many bytes are then left of others */
+static int hold(const char *name, const char *record, const char *device) {
+    int in = syscall3(OPEN, (int)name, FOR_READING, 0);
+    int same = syscall3(DUP, in, 0, 0);
+    int other = syscall3(OPEN, (int)record, FOR_READING, 0);
+    int zeros = syscall3(OPEN, (int)device, FOR_READING, 0);
+    syscall3(UNLINK, (int)name, 0, 0);
+    syscall3(READ, in, (int)room, 1);
+    syscall3(CLOSE, in, 0, 0);
+    syscall3(READ, same, (int)room + 1, 1);
+    syscall3(WRITE, 1, (int)room, 2);
+    return syscall3(READ, other, (int)room, sizeof room) + syscall3(READ, zeros, (int)room, 7);
+}
+
 /* a sum that takes a while to make */
 static int work(void) {
     unsigned sum = 1;
@@ -85,6 +99,7 @@ int main(int argc, char **argv) {
         else if (is(argv[i], "work")) put_number(work());
         else if (is(argv[i], "time")) put_number(syscall3(TIME, 0, 0, 0));
         else if (is(argv[i], "copy")) put_number(copy(argv[i + 1], argv[i + 2])), i += 2;
+        else if (is(argv[i], "hold")) put_number(hold(argv[i + 1], argv[i + 2], argv[i + 3])), i += 3;
         else if (is(argv[i], "rename")) put_number(syscall3(RENAME, (int)argv[i + 1], (int)argv[i + 2], 0)), i += 2;
         else if (is(argv[i], "remove")) put_number(syscall3(UNLINK, (int)argv[i + 1], 0, 0)), i += 1;
         else if (is(argv[i], "open")) put_number(syscall3(OPEN, (int)argv[i + 1], FOR_READING, 0)), i += 1;

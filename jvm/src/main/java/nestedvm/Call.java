@@ -1,6 +1,5 @@
 package nestedvm;
 
-import java.io.ByteArrayInputStream;
 import java.io.InputStream;
 import java.io.OutputStream;
 import java.nio.file.Path;
@@ -25,16 +24,21 @@ import java.util.Random;
  * it is for one thread at a time.
  */
 public final class Call {
+    private static final byte[] NOTHING = {};
     private static final int LONGEST_NAME = 255;
     private static final int MOST_HEAP_PAGES = 32_768;
     private static final int DEFAULT_OUTPUT_BYTES = 67_108_864;
 
     private final Program program;
     private final String[] arguments;
+
+    /** The snapshot with which the call goes on, or null. */
+    private final Snapshot snapshot;
+
     private final Map<String, byte[]> files = new LinkedHashMap<>();
     private final Map<String, String> environment = new LinkedHashMap<>();
     private String name;
-    private byte[] inputBytes = new byte[0];
+    private byte[] inputBytes = NOTHING;
     private InputStream input;
     private OutputStream output;
     private OutputStream errorOutput;
@@ -48,9 +52,20 @@ public final class Call {
     private Duration time;
     private int mostOutput = DEFAULT_OUTPUT_BYTES;
 
+    /** A call that begins with arguments. */
     Call(Program program, String[] arguments) {
+        this(program, arguments, null);
+    }
+
+    /** A call that goes on with a snapshot. */
+    Call(Program program, Snapshot snapshot) {
+        this(program, new String[0], snapshot);
+    }
+
+    private Call(Program program, String[] arguments, Snapshot snapshot) {
         this.program = program;
         this.arguments = arguments.clone();
+        this.snapshot = snapshot;
         this.name = program.name();
         for (String argument : arguments) {
             requireText(argument);
@@ -63,6 +78,13 @@ public final class Call {
         }
     }
 
+    /** A call that goes on with a snapshot has its arguments, files and heap from there. */
+    private void needBeginning() {
+        if (snapshot != null) {
+            throw new IllegalStateException("a call that goes on with a snapshot has its arguments, its files and its heap from there");
+        }
+    }
+
     /**
      * Argument 0, which is the name by which the program is called.
      *
@@ -71,6 +93,7 @@ public final class Call {
      * @throws IllegalArgumentException where it has a character 0
      */
     public Call name(String argument) {
+        needBeginning();
         requireText(argument);
         name = argument;
         return this;
@@ -132,6 +155,7 @@ public final class Call {
      * @throws IllegalArgumentException where the name is empty, too long or has a character 0, or where there are 256 files already
      */
     public Call file(String path, byte[] content) {
+        needBeginning();
         requireText(path);
         int length = Names.bytesOf(path).length;
         if (length == 0 || length > LONGEST_NAME) {
@@ -167,6 +191,7 @@ public final class Call {
      * @throws IllegalArgumentException where the number is out of this range
      */
     public Call blocks(int most) {
+        needBeginning();
         if (most < 0 || most > GuestFiles.MOST_BLOCKS) {
             throw new IllegalArgumentException("a disk has 0 to 65,536 blocks, and not " + most);
         }
@@ -233,6 +258,7 @@ public final class Call {
      * @throws IllegalArgumentException where the number is out of this range
      */
     public Call heap(int pages) {
+        needBeginning();
         if (pages < 0 || pages > MOST_HEAP_PAGES) {
             throw new IllegalArgumentException("a heap has 0 to 32,768 pages, and not " + pages);
         }
@@ -279,6 +305,7 @@ public final class Call {
      * @throws IllegalArgumentException where the name is of another form, or the value has a character 0
      */
     public Call environment(String variable, String value) {
+        needBeginning();
         if (!variable.matches("[A-Za-z_][A-Za-z_0-9]*")) {
             throw new IllegalArgumentException("the name of a variable is a letter or _, and letters, digits and _, and not " + variable);
         }
@@ -310,9 +337,19 @@ public final class Call {
      * @throws LinkageError where a class of the program cannot be loaded
      */
     public Result run() {
-        try (Session session = session(HostCalls.NONE)) {
+        try (Session session = session(HostCalls.NONE, Meter.of(instructions, time))) {
             return session.result(name, play(session));
         }
+    }
+
+    /**
+     * Begins a run of a metered program that is made in slices, as {@link Execution} tells. The bound of {@link #instructions} is that of all slices.
+     *
+     * @return the run, of which nothing but call 0 was made
+     * @throws IllegalArgumentException as {@link #run}, and where the program has no meter
+     */
+    public Execution start() {
+        return new Execution(name, program, session(HostCalls.NONE, Meter.ofSlices(instructions, time)));
     }
 
     private Answer play(Session session) {
@@ -332,8 +369,9 @@ public final class Call {
      * @throws LinkageError where a class of the program cannot be loaded
      */
     public Library library() {
+        needBeginning();
         ResidentCalls calls = new ResidentCalls();
-        Session session = session(calls);
+        Session session = session(calls, Meter.of(instructions, time));
         Copy copy = program.takeCopy();
         try {
             return new Library(name, program, copy, session, calls);
@@ -345,31 +383,49 @@ public final class Call {
         }
     }
 
-    private Session session(HostCalls hostCalls) {
+    private Session session(HostCalls hostCalls, Meter meter) {
         try {
-            return newSession(hostCalls);
+            return newSession(hostCalls, meter);
         } catch (Stopped stopped) {
             throw new IllegalArgumentException(name + ": " + stopped.answer().explanation(), stopped.answer().cause());
         }
     }
 
-    private Session newSession(HostCalls hostCalls) {
+    private Session newSession(HostCalls hostCalls, Meter meter) {
         Arguments words = Arguments.of(name, words());
-        Meter meter = new Meter(instructions, time);
-        GuestClock guestClock = clock == null ? GuestClock.running(meter::check) : GuestClock.of(clock, meter::check);
+        GuestClock guestClock = newClock(meter);
         HostFiles host = new HostFiles(guestClock, random, Collections.emptyMap());
-        GuestFiles guestFiles = new GuestFiles(blocks, folder == null ? null : LiveFolder.of(folder, access), host);
+        int disk = snapshot == null ? blocks : snapshot.system().blocks();
+        GuestFiles guestFiles = new GuestFiles(disk, folder == null ? null : LiveFolder.of(folder, access), host);
         for (Map.Entry<String, byte[]> file : files.entrySet()) {
             guestFiles.add(Names.pathOf(file.getKey()), file.getValue());
         }
-        GatheredOutput gathered = new GatheredOutput(mostOutput);
-        GatheredOutput errorsGathered = new GatheredOutput(mostOutput);
+        GatheredOutput gathered = new GatheredOutput(mostOutput, snapshot == null ? NOTHING : snapshot.system().output());
+        GatheredOutput errorsGathered = new GatheredOutput(mostOutput, snapshot == null ? NOTHING : snapshot.system().errorOutput());
+        GivenInput givenInput = newInput();
         Console console = new Console(
-            input == null ? new ByteArrayInputStream(inputBytes) : input,
+            givenInput,
             output == null ? gathered : output,
             errorOutput == null ? errorsGathered : errorOutput);
-        GuestSystem system = new GuestSystem(console, guestFiles, words, guestClock::seconds, hostCalls, heapPages, meter);
-        return new Session(console, guestFiles, system, gathered, errorsGathered);
+        GuestSystem system = new GuestSystem(console, guestFiles, words, guestClock::seconds, hostCalls, heapPages, meter, snapshot);
+        return new Session(givenInput, console, guestFiles, system, gathered, errorsGathered);
+    }
+
+    private GuestClock newClock(Meter meter) {
+        GuestClock guestClock = clock == null ? GuestClock.running(meter::check) : GuestClock.of(clock, meter::check);
+        return snapshot == null ? guestClock : guestClock.resumed(snapshot.system().start(), snapshot.system().elapsed());
+    }
+
+    /** Input: first what the snapshot has of it. */
+    private GivenInput newInput() {
+        byte[] given = input == null ? inputBytes : NOTHING;
+        if (snapshot == null) {
+            return new GivenInput(given, input);
+        }
+        byte[] before = snapshot.system().input();
+        byte[] all = Arrays.copyOf(before, before.length + given.length);
+        System.arraycopy(given, 0, all, before.length, given.length);
+        return new GivenInput(all, input);
     }
 
     /** The words behind argument 0. */

@@ -7,6 +7,7 @@ import java.io.IOException;
 import java.io.InputStream;
 import java.io.OutputStream;
 import java.nio.charset.StandardCharsets;
+import java.util.Arrays;
 
 /**
  * The input and the two outputs of a guest, over streams, which it never closes. What a stream throws ends the run.
@@ -68,6 +69,11 @@ final class Console {
         } catch (IOException | RuntimeException thrown) {
             throw new Stopped(Answer.readFault(thrown));
         }
+    }
+
+    /** A copy of the bytes that were read ahead. */
+    byte[] ahead() {
+        return Arrays.copyOfRange(ahead, aheadPlace, aheadEnd);
     }
 
     /** Writes bytes to an output. */

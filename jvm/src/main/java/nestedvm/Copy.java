@@ -76,20 +76,16 @@ final class Copy {
     /** Runs the program in this thread to its end, over a system. What stops the run is thrown, and so is what no run ends with. */
     Answer run(GuestSystem system) {
         try {
-            Image image = images.of(this);
-            if (image != null) {
-                begin(image, system);
-                if (chooseAndClear == null) {
-                    chooseAndClear = clearing(choose());
-                }
-                return play(chooseAndClear, system);
+            if (begin(system)) {
+                return goOn(system);
             }
         } catch (OutOfMemoryError end) {
             forget();
             return Traps.answerTo(end);
         }
-        if (system.heapPages() != GuestSystem.AS_TRANSLATED) {
-            throw new IllegalArgumentException(main.getName() + " is no main class of a translated program, so its heap cannot be chosen");
+        if (system.heapPages() != GuestSystem.AS_TRANSLATED || system.snapshot() != null) {
+            throw new IllegalArgumentException(
+                main.getName() + " is no main class of a translated program, so its heap cannot be chosen, and no snapshot goes on in it");
         }
         needMeter(system);
         return play(run, system);
@@ -104,7 +100,12 @@ final class Copy {
         }
     }
 
-    private void begin(Image image, GuestSystem system) {
+    /** Puts the program into its first state, or into that of a snapshot. Where the classes are not those of a translated program it does not. */
+    boolean begin(GuestSystem system) {
+        Image image = images.of(this);
+        if (image == null) {
+            return false;
+        }
         tables = idleTables.get();
         if (tables == null) {
             tables = new Tables();
@@ -112,7 +113,29 @@ final class Copy {
         }
         needMeter(system);
         try {
-            image.begin(tables, fields, system);
+            if (system.snapshot() == null) {
+                image.begin(tables, fields, system);
+            } else {
+                image.goOn(tables, fields, system);
+            }
+            return true;
+        } catch (ReflectiveOperationException impossible) {
+            throw new IllegalStateException(impossible);
+        }
+    }
+
+    /** The program, which has begun, goes on in this thread, to its end or that of a slice. What stops it is thrown. */
+    Answer goOn(GuestSystem system) {
+        if (chooseAndClear == null) {
+            chooseAndClear = clearing(choose());
+        }
+        return play(chooseAndClear, system);
+    }
+
+    /** The state of the program between two of its instructions. */
+    MachineState state(GuestSystem system) {
+        try {
+            return images.of(this).state(tables, fields, system);
         } catch (ReflectiveOperationException impossible) {
             throw new IllegalStateException(impossible);
         }
@@ -120,7 +143,7 @@ final class Copy {
 
     private void needMeter(GuestSystem system) {
         if (system.meter().isChosen() && !fields.have("left")) {
-            throw new IllegalArgumentException(main.getName() + " was translated without --meter, so it has no number of instructions and no deadline");
+            throw new IllegalArgumentException(main.getName() + " was translated without --meter, so it has no number of instructions, no deadline and no slices");
         }
     }
 

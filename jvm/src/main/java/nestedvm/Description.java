@@ -26,7 +26,12 @@ final class Description {
 
     /** A file as flags open it, at its start. */
     static Description ofFile(GuestFile file, OpenFlags flags) {
-        return new Description(file, null, flags.reads(), flags.writes(), flags.appends());
+        return ofFile(file, flags.reads(), flags.writes(), flags.appends());
+    }
+
+    /** A file that may be read or written, or whose bytes are written behind its end, at its start. */
+    static Description ofFile(GuestFile file, boolean mayRead, boolean mayWrite, boolean appends) {
+        return new Description(file, null, mayRead, mayWrite, appends);
     }
 
     boolean isConsole() {
@@ -41,6 +46,18 @@ final class Description {
     /** The side of the console, or null for a file. */
     Side side() {
         return side;
+    }
+
+    boolean mayRead() {
+        return mayRead;
+    }
+
+    boolean mayWrite() {
+        return mayWrite;
+    }
+
+    boolean appends() {
+        return appends;
     }
 
     void needReading() throws Refusal {

@@ -1,16 +1,44 @@
 package nestedvm;
 
+import java.util.List;
+
 /** The descriptors of a guest, and what they stand for. */
 final class Descriptors {
-    private static final int COUNT = 64;
+    /** How many there are. */
+    static final int COUNT = 64;
 
     private final Description[] descriptions = new Description[COUNT];
 
+    private Descriptors() {
+    }
+
+    /** None is in use. */
+    static Descriptors none() {
+        return new Descriptors();
+    }
+
     /** Descriptors 0, 1 and 2 are input, output and error output. */
-    Descriptors() {
-        set(0, Description.ofConsole(Side.INPUT));
-        set(1, Description.ofConsole(Side.OUTPUT));
-        set(2, Description.ofConsole(Side.ERROR_OUTPUT));
+    static Descriptors ofConsole() {
+        Descriptors descriptors = none();
+        for (Side side : Side.values()) {
+            descriptors.set(side.ordinal(), Description.ofConsole(side));
+        }
+        return descriptors;
+    }
+
+    /** Adds the files in memory that have no name, for which descriptors stand. */
+    void addUnnamed(List<MemoryFile> files) {
+        for (Description description : descriptions) {
+            GuestFile file = description == null ? null : description.file();
+            if (file instanceof MemoryFile && file.name() == null && !files.contains(file)) {
+                files.add((MemoryFile) file);
+            }
+        }
+    }
+
+    /** What they stand for, where files in memory are among these. */
+    DescriptorsState state(List<MemoryFile> files) {
+        return DescriptorsState.of(descriptions, files);
     }
 
     /** What a descriptor stands for, or the call is refused. */

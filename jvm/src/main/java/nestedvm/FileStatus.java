@@ -6,6 +6,7 @@ import java.nio.file.Files;
 import java.nio.file.Path;
 import java.nio.file.attribute.BasicFileAttributes;
 import java.nio.file.attribute.PosixFilePermission;
+import java.time.DateTimeException;
 import java.time.Instant;
 
 /** What a host tells of a file or folder: its kind and permissions as POSIX has them, its size, and when it was changed and read. */
@@ -70,6 +71,25 @@ final class FileStatus {
     /** A device: what is no file and no folder. */
     static FileStatus device() {
         return new FileStatus(DEVICE | 0666, 0, Instant.EPOCH, Instant.EPOCH);
+    }
+
+    /** What a record tells, which {@link #isRecord}. */
+    static FileStatus ofRecord(byte[] record) {
+        ByteBuffer bytes = ByteBuffer.wrap(record);
+        return new FileStatus(bytes.getInt(), bytes.getLong(), time(bytes), time(bytes));
+    }
+
+    /** Whether so many bytes are a record: whether their times are times. */
+    static boolean isRecord(byte[] record) {
+        try {
+            return ofRecord(record).record().length == BYTES;
+        } catch (DateTimeException | ArithmeticException none) {
+            return false;
+        }
+    }
+
+    private static Instant time(ByteBuffer record) {
+        return Instant.ofEpochSecond(record.getLong(), record.getInt());
     }
 
     boolean isFolder() {

@@ -3,6 +3,7 @@ package nestedvm;
 import java.io.ByteArrayOutputStream;
 import java.nio.charset.StandardCharsets;
 import java.util.ArrayList;
+import java.util.List;
 import java.util.Map;
 import java.util.Set;
 import java.util.TreeMap;
@@ -38,6 +39,16 @@ final class Folders {
         this.files = files;
         this.live = live;
         this.clock = clock;
+    }
+
+    /** The folders in memory that the guest has made. */
+    List<String> made() {
+        return new ArrayList<>(made);
+    }
+
+    /** The guest has made these folders in memory. */
+    void restore(List<String> folders) {
+        made.addAll(folders);
     }
 
     /** Whether a name stands for a folder that is made, removed or renamed: it ends in a slash. */

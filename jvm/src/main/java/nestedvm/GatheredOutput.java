@@ -9,11 +9,19 @@ final class GatheredOutput extends OutputStream {
     private static final byte[] NOTHING = {};
 
     private final int most;
-    private byte[] bytes = NOTHING;
+    private byte[] bytes;
     private int length;
 
+    /** None is gathered yet. */
     GatheredOutput(int most) {
+        this(most, NOTHING);
+    }
+
+    /** Bytes are gathered already, of which a copy is made. */
+    GatheredOutput(int most, byte[] before) {
         this.most = most;
+        this.bytes = before.clone();
+        this.length = before.length;
     }
 
     @Override

@@ -16,7 +16,7 @@ final class GuestClock {
     /** A clock that the caller has given, or null. */
     private final Clock given;
 
-    private final long startNanoseconds = System.nanoTime();
+    private long startNanoseconds = System.nanoTime();
 
     /** The moment at which the run began, or null where a given clock has not yet been asked. */
     private Instant start;
@@ -40,6 +40,13 @@ final class GuestClock {
         return new GuestClock(given, null, check);
     }
 
+    /** The clock of a run that began at a moment, and has run for so many nanoseconds. */
+    GuestClock resumed(Instant start, long elapsed) {
+        GuestClock clock = new GuestClock(given, start, check);
+        clock.startNanoseconds -= elapsed;
+        return clock;
+    }
+
     /** The seconds since 1970 that the system's call tells. */
     long seconds() {
         return (given == null ? start : given.instant()).getEpochSecond();
@@ -59,12 +66,17 @@ final class GuestClock {
      */
     byte[] record() {
         Instant now = given == null ? Instant.now() : given.instant();
-        Instant elapsed = Instant.EPOCH.plus(given == null ? Duration.ofNanos(System.nanoTime() - startNanoseconds) : Duration.between(start(), now));
+        Instant elapsed = Instant.EPOCH.plus(given == null ? elapsed() : Duration.between(start(), now));
         ByteBuffer record = ByteBuffer.allocate(BYTES);
         FileStatus.putTime(record, now);
         FileStatus.putTime(record, elapsed);
         FileStatus.putTime(record, elapsed);
         return record.array();
+    }
+
+    /** For how long the run has lasted, by the clock of the process. */
+    Duration elapsed() {
+        return Duration.ofNanos(System.nanoTime() - startNanoseconds);
     }
 
     /** Waits for so many nanoseconds, unless the clock stands still. Where the thread is interrupted the run ends. */

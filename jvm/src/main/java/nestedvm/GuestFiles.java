@@ -1,6 +1,8 @@
 package nestedvm;
 
+import java.util.ArrayList;
 import java.util.HashMap;
+import java.util.List;
 import java.util.Map;
 import java.util.Set;
 import java.util.TreeMap;
@@ -51,6 +53,46 @@ final class GuestFiles {
         }
         freeBlocks -= needed;
         insert(path, content);
+    }
+
+    /** Restores the files and folders of a stopped run, whose blocks there are; the files in their order. */
+    List<MemoryFile> restore(SystemState state) {
+        List<MemoryFile> restored = new ArrayList<>();
+        for (FileState file : state.files()) {
+            freeBlocks -= GuestFile.blocksFor(file.content().length);
+            MemoryFile each = new MemoryFile(file.name().isEmpty() ? null : file.name(), file.content());
+            if (each.name() != null) {
+                named.put(each.name(), each);
+            }
+            restored.add(each);
+        }
+        count = restored.size();
+        folders.restore(state.folders());
+        return restored;
+    }
+
+    /** The files in memory that have a name, in the order of their names. */
+    List<MemoryFile> named() {
+        return new ArrayList<>(new TreeMap<>(named).values());
+    }
+
+    /** The blocks of the disk. */
+    int blocks() {
+        return blocks;
+    }
+
+    GuestClock clock() {
+        return host.clock();
+    }
+
+    /** The folders in memory that the guest has made. */
+    List<String> folders() {
+        return folders.made();
+    }
+
+    /** A device of the host. */
+    HostFile device(String name) {
+        return host.device(name);
     }
 
     private MemoryFile insert(String path, byte[] content) {

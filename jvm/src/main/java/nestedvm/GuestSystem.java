@@ -33,17 +33,19 @@ final class GuestSystem {
     private final HostCalls hostCalls;
     private final int heapPages;
     private final Meter meter;
-    private final Descriptors descriptors = new Descriptors();
+    private final Snapshot snapshot;
+    private final Descriptors descriptors;
     private final Heap heap = new Heap();
     private ByteOrder order = ByteOrder.BIG_ENDIAN;
 
     /** A system over a console, files and arguments, and a clock that tells seconds since 1970. */
     GuestSystem(Console console, GuestFiles files, Arguments arguments, LongSupplier clock) {
-        this(console, files, arguments, clock, HostCalls.NONE, AS_TRANSLATED, new Meter(null, null));
+        this(console, files, arguments, clock, HostCalls.NONE, AS_TRANSLATED, Meter.none(), null);
     }
 
-    /** The same with calls of the host's own, with a heap of so many pages, and a meter. */
-    GuestSystem(Console console, GuestFiles files, Arguments arguments, LongSupplier clock, HostCalls hostCalls, int heapPages, Meter meter) {
+    /** The same with calls of the host's own, with a heap of so many pages, a meter, and a snapshot with which the guest goes on, or null. */
+    GuestSystem(Console console, GuestFiles files, Arguments arguments, LongSupplier clock, HostCalls hostCalls, int heapPages, Meter meter,
+        Snapshot snapshot) {
         this.console = console;
         this.files = files;
         this.arguments = arguments;
@@ -51,6 +53,8 @@ final class GuestSystem {
         this.hostCalls = hostCalls;
         this.heapPages = heapPages;
         this.meter = meter;
+        this.snapshot = snapshot;
+        this.descriptors = snapshot == null ? Descriptors.ofConsole() : snapshot.system().descriptors().restore(files.restore(snapshot.system()), files);
     }
 
     /** A system that answers no call: it throws {@link Begun} at the first one. */
@@ -66,6 +70,29 @@ final class GuestSystem {
     /** The pages of the heap, or {@link #AS_TRANSLATED}. */
     int heapPages() {
         return heapPages;
+    }
+
+    /** The snapshot with which the guest goes on, or null where it begins. */
+    Snapshot snapshot() {
+        return snapshot;
+    }
+
+    /** The guest of the snapshot goes on, with a heap, and an order of bytes by its number. */
+    void goOn(int heapStart, int heapBytes, int orderNumber) {
+        heap.begin(heapStart, heapBytes);
+        if (!heap.setBreak(snapshot.system().programBreak())) {
+            throw SnapshotReader.refused("the program break is outside of the heap");
+        }
+        setOrder(orderNumber);
+    }
+
+    private void setOrder(int number) {
+        order = number == 1 ? ByteOrder.LITTLE_ENDIAN : ByteOrder.BIG_ENDIAN;
+    }
+
+    /** What a stopped run has of this system, with input that was not read and output that is gathered. */
+    SystemState state(byte[] input, byte[] output, byte[] errorOutput) {
+        return SystemState.of(heap.programBreak(), files, descriptors, input, output, errorOutput);
     }
 
     /** The order of the bytes of words, which the guest names as it begins. */
@@ -88,6 +115,8 @@ final class GuestSystem {
             return number < HostCalls.FIRST ? serve(memory, number, a0, a1, a2, a3) : hostCalls.answer(number, a0, a1, a2, a3);
         } catch (Refusal refusal) {
             return refusal.error();
+        } finally {
+            meter.endCall();
         }
     }
 
@@ -140,7 +169,7 @@ final class GuestSystem {
         }
         memory.needRoom(place, Arguments.LONGEST_BLOCK);
         heap.begin(heapStart, heapBytes);
-        order = orderNumber == 1 ? ByteOrder.LITTLE_ENDIAN : ByteOrder.BIG_ENDIAN;
+        setOrder(orderNumber);
         putAll(memory, place, arguments.block(place, order));
         return arguments.count();
     }

@@ -28,6 +28,21 @@ final class Heap {
         this.programBreak = this.start;
     }
 
+    /** The address of the program break. */
+    int programBreak() {
+        return (int) programBreak;
+    }
+
+    /** Sets the program break, unless it is to be outside of the heap. */
+    boolean setBreak(int address) {
+        long moved = Integer.toUnsignedLong(address);
+        if (moved < start || moved > end) {
+            return false;
+        }
+        programBreak = moved;
+        return true;
+    }
+
     /** Moves the program break within the heap, and tells the old one. */
     int move(int delta) throws Refusal {
         long moved = programBreak + delta;

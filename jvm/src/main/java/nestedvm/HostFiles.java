@@ -2,6 +2,8 @@ package nestedvm;
 
 import java.io.ByteArrayOutputStream;
 import java.security.SecureRandom;
+import java.util.Arrays;
+import java.util.List;
 import java.util.Map;
 import java.util.Random;
 
@@ -12,6 +14,9 @@ import java.util.Random;
 final class HostFiles {
     /** With what the names of all devices begin. */
     static final String DEVICES = "/dev/";
+
+    private static final String ZERO = "/dev/zero";
+    private static final List<String> RANDOM = Arrays.asList("/dev/random", "/dev/urandom");
 
     private static final String OWN = "/dev/nested/";
     private static final String STATUS = "status/";
@@ -43,15 +48,20 @@ final class HostFiles {
 
     /** The file of a name, or null where the host has none. */
     HostFile find(String name, Folders folders) throws Refusal {
-        switch (name) {
-            case "/dev/zero":
-                return new HostStream(name, bytes -> { });
-            case "/dev/random":
-            case "/dev/urandom":
-                return new HostStream(name, random()::nextBytes);
-            default:
-                return name.startsWith(OWN) ? findOwn(name, name.substring(OWN.length()), folders) : null;
+        if (isDevice(name)) {
+            return device(name);
         }
+        return name.startsWith(OWN) ? findOwn(name, name.substring(OWN.length()), folders) : null;
+    }
+
+    /** Whether a name is that of a device, which has bytes without an end. */
+    static boolean isDevice(String name) {
+        return name.equals(ZERO) || RANDOM.contains(name);
+    }
+
+    /** The device of such a name. */
+    HostFile device(String name) {
+        return new HostStream(name, name.equals(ZERO) ? bytes -> { } : random()::nextBytes);
     }
 
     /** The source of random bytes. A secure one takes a while to make, and is made when it is first asked for. */

@@ -12,6 +12,10 @@ final class HostRecord extends HostFile {
         this.status = status;
     }
 
+    byte[] bytes() {
+        return bytes;
+    }
+
     @Override
     int length() {
         return bytes.length;

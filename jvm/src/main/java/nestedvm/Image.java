@@ -1,8 +1,14 @@
 package nestedvm;
 
+import java.nio.ByteBuffer;
+import java.security.MessageDigest;
+import java.security.NoSuchAlgorithmException;
 import java.util.ArrayList;
 import java.util.Arrays;
+import java.util.HashMap;
 import java.util.List;
+import java.util.Map;
+import java.util.TreeMap;
 
 /**
  * What a translated program begins with: its pages, and the address of its first instruction. The classes make it once; for each run it is laid down
@@ -89,19 +95,90 @@ final class Image {
         }
     }
 
-    /** Puts a program into its first state, over empty tables: the fields of its main class, with call 0 answered by a system. */
-    void begin(Tables tables, StaticFields fields, GuestSystem system) throws IllegalAccessException {
-        int heapPages = system.heapPages() < 0 ? begun.heapBytes() / PAGE_BYTES : system.heapPages();
-        layDown(tables, heapPages);
+    /** Puts a program into the state of a snapshot, over empty tables. */
+    void goOn(Tables tables, StaticFields fields, GuestSystem system) throws IllegalAccessException {
+        MachineState state = system.snapshot().machine();
+        if (!Arrays.equals(state.program(), checksum())) {
+            throw new IllegalArgumentException("the snapshot is one of another program");
+        }
+        layDown(tables, state.heapPages());
+        state.pages().forEach((number, words) -> {
+            int[] page = tables.writable()[number];
+            if (page == null) {
+                throw SnapshotReader.refused("it has a page that the program may not write");
+            }
+            System.arraycopy(words, 0, page, 0, PAGE_WORDS);
+        });
+        putTables(tables, fields);
+        state.putRegisters(fields);
+        system.goOn(begun.heapStart(), state.heapPages() * PAGE_BYTES, begun.order());
+        if (fields.have("left")) {
+            system.meter().attach(fields, left, state.instructions(), false);
+        }
+    }
+
+    private static void putTables(Tables tables, StaticFields fields) throws IllegalAccessException {
         fields.set("rd", tables.readable());
         fields.set("wr", tables.writable());
+    }
+
+    /** The state of a program that has begun with this image. */
+    MachineState state(Tables tables, StaticFields fields, GuestSystem system) throws IllegalAccessException {
+        Map<Integer, int[]> changed = new TreeMap<>();
+        Map<Integer, int[]> first = new HashMap<>();
+        for (Page page : pages) {
+            first.put(page.number, page.words);
+        }
+        int[] zeros = new int[PAGE_WORDS];
+        tables.forEachWritable((number, words) -> {
+            int[] before = first.get(number);
+            if (!Arrays.equals(words, before == null ? zeros : before)) {
+                changed.put(number, words.clone());
+            }
+        });
+        return new MachineState(checksum(), system.meter().made(), MachineState.registersOf(fields), heapPagesOf(system), changed);
+    }
+
+    private int heapPagesOf(GuestSystem system) {
+        if (system.snapshot() != null) {
+            return system.snapshot().machine().heapPages();
+        }
+        return system.heapPages() < 0 ? begun.heapBytes() / PAGE_BYTES : system.heapPages();
+    }
+
+    /** SHA-256 of what the program begins with, but for its heap: its entry, its order of bytes, where its heap and its arguments are, and its pages. */
+    private byte[] checksum() {
+        try {
+            MessageDigest sums = MessageDigest.getInstance("SHA-256");
+            sums.update(ints(entry, begun.order(), begun.heapStart(), begun.place()));
+            for (Page page : pages) {
+                sums.update(ints(page.number, page.mayWrite ? 1 : 0));
+                sums.update(ints(page.words == null ? new int[PAGE_WORDS] : page.words));
+            }
+            return sums.digest();
+        } catch (NoSuchAlgorithmException impossible) {
+            throw new IllegalStateException(impossible);
+        }
+    }
+
+    private static byte[] ints(int... values) {
+        ByteBuffer bytes = ByteBuffer.allocate(Integer.BYTES * values.length);
+        bytes.asIntBuffer().put(values);
+        return bytes.array();
+    }
+
+    /** Puts a program into its first state, over empty tables: the fields of its main class, with call 0 answered by a system. */
+    void begin(Tables tables, StaticFields fields, GuestSystem system) throws IllegalAccessException {
+        int heapPages = heapPagesOf(system);
+        layDown(tables, heapPages);
+        putTables(tables, fields);
         GuestMemory memory = new GuestMemory(tables.readable(), tables.writable());
         fields.setInt("r4", system.answer(memory, 0, begun.place(), begun.heapStart(), heapPages * PAGE_BYTES, begun.order()));
         fields.setInt("r5", begun.place());
         fields.setInt("r29", STACK_POINTER);
         fields.setInt("pc", entry);
         if (fields.have("left")) {
-            system.meter().attach(fields, left);
+            system.meter().attach(fields, left, 1, true);
         }
     }
 }

@@ -7,6 +7,7 @@ import java.io.ObjectInputStream;
 import java.io.ObjectStreamException;
 import java.io.Serializable;
 import java.nio.file.Path;
+import java.util.Objects;
 import java.util.zip.ZipFile;
 
 /**
@@ -134,6 +135,19 @@ public final class Program implements Serializable {
      */
     public Call call(String... arguments) {
         return new Call(this, arguments);
+    }
+
+    /**
+     * A call that goes on where a stopped run of this program stood. It chooses streams, a folder, a clock, and bounds of instructions and time anew; input
+     * comes behind what the snapshot has of it, and gathered output behind the snapshot's, which the result has also where an output has a stream.
+     *
+     * @param snapshot the state of the run. It stays as it is, and may be used again
+     * @return the call: {@link Call#run} makes the rest of it, and {@link Call#start} slices where this program is metered. Both throw an
+     *     {@code IllegalArgumentException} where the snapshot is one of another program, or has pages or a program break that this one cannot have. Methods for what the
+     *     snapshot has, as {@link Call#file} and {@link Call#heap}, throw an {@code IllegalStateException}
+     */
+    public Call call(Snapshot snapshot) {
+        return new Call(this, Objects.requireNonNull(snapshot));
     }
 
     /**

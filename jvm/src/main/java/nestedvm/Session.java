@@ -1,5 +1,6 @@
 package nestedvm;
 
+import java.util.Arrays;
 import java.util.Collections;
 
 /** The system of one run, with what it has of the outside. */
@@ -9,13 +10,15 @@ final class Session implements AutoCloseable {
 
     private static final byte[] NOTHING = {};
 
+    private final GivenInput input;
     private final Console console;
     private final GuestFiles files;
     private final GuestSystem system;
     private final GatheredOutput output;
     private final GatheredOutput errorOutput;
 
-    Session(Console console, GuestFiles files, GuestSystem system, GatheredOutput output, GatheredOutput errorOutput) {
+    Session(GivenInput input, Console console, GuestFiles files, GuestSystem system, GatheredOutput output, GatheredOutput errorOutput) {
+        this.input = input;
         this.console = console;
         this.files = files;
         this.system = system;
@@ -75,6 +78,20 @@ final class Session implements AutoCloseable {
     /** Lets what was gathered go out. */
     void flush() {
         console.flush();
+    }
+
+    /** What a stopped run has beside its machine. */
+    SystemState state() {
+        return system.state(input(), output.last(Integer.MAX_VALUE), errorOutput.last(Integer.MAX_VALUE));
+    }
+
+    /** The input that was not read. */
+    private byte[] input() {
+        byte[] ahead = console.ahead();
+        byte[] rest = input.rest();
+        byte[] all = Arrays.copyOf(ahead, ahead.length + rest.length);
+        System.arraycopy(rest, 0, all, ahead.length, rest.length);
+        return all;
     }
 
     /** Takes what was gathered of output since the last time. */

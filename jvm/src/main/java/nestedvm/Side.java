@@ -1,6 +1,6 @@
 package nestedvm;
 
-/** A side of the console. */
+/** A side of the console. Their order is that of the first three descriptors. */
 enum Side {
     INPUT,
     OUTPUT,

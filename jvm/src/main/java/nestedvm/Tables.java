@@ -1,6 +1,7 @@
 package nestedvm;
 
 import java.util.Arrays;
+import java.util.function.BiConsumer;
 
 /**
  * The two tables of pages of a program, which serve one run after the other: to make them anew takes longer than to clear them, most of all where the
@@ -25,6 +26,15 @@ final class Tables {
     /** The pages that may be written. */
     int[][] writable() {
         return writable;
+    }
+
+    /** Does something with each page that may be written, and its number. */
+    void forEachWritable(BiConsumer<Integer, int[]> deed) {
+        for (int i = 0; i < count; i++) {
+            if (writable[numbers[i]] != null) {
+                deed.accept(numbers[i], writable[numbers[i]]);
+            }
+        }
     }
 
     /** Whether there is a page of a number. */

@@ -19,7 +19,10 @@ final class CaseTests {
             Case guest = new Case(folder.toPath());
             return DynamicContainer.dynamicContainer(folder.getName(), Stream.of(
                 DynamicTest.dynamicTest("as nested interp does it", guest::inMemory),
-                DynamicTest.dynamicTest("again, with files of a folder", guest::inFolder)));
+                DynamicTest.dynamicTest("again, with files of a folder", guest::inFolder),
+                DynamicTest.dynamicTest("in slices", guest::inSlices),
+                DynamicTest.dynamicTest("moved to new classes at ten places", guest::moved),
+                DynamicTest.dynamicTest("left at its calls, and gone on with in new classes", guest::leftAtCalls)));
         });
     }
 }
