@@ -143,7 +143,8 @@ final class Copy {
 
     private void needMeter(GuestSystem system) {
         if (system.meter().isChosen() && !fields.have("left")) {
-            throw new IllegalArgumentException(main.getName() + " was translated without --meter, so it has no number of instructions, no deadline and no slices");
+            throw new IllegalArgumentException(
+                main.getName() + " was translated without --meter, so it has no number of instructions, no deadline and no slices");
         }
     }
 

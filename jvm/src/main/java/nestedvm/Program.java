@@ -34,11 +34,17 @@ public final class Program implements Serializable {
     private final transient CopyPool pool = new CopyPool();
 
     private Program(ClassSource source, String className, String name) {
+        this(source, className, name, null);
+    }
+
+    /** A program whose first copy has classes of a loader, where this has them and no other program uses them. */
+    private Program(ClassSource source, String className, String name, ClassLoader first) {
         this.source = source;
         this.className = className;
         this.name = name;
         this.images = new Images(source.find(className));
-        pool.put(newCopy());
+        Class<?> main = first == null ? null : LoadedClasses.take(first, className);
+        pool.put(copyOf(main));
     }
 
     /**
@@ -54,6 +60,23 @@ public final class Program implements Serializable {
         int start = main.lastIndexOf('/') + 1;
         String className = main.substring(start);
         return new Program(new ResourceSource(resources, main.substring(0, start)), className, className);
+    }
+
+    /**
+     * The same as {@link #of}, but the classes of its first copy are those that the class loader itself loads, where they stand at the top of the class path as
+     * well: {@code jvm/package} makes {@code NAME.start} for that. The virtual machine takes such classes from a shared archive, if it has one, so that the
+     * first call takes a part of the time. They are not held to what classes of a program may name, so this is for programs that are trusted as the
+     * application's own classes are. Where there are no such classes, or another program uses them, this is {@code of}.
+     *
+     * @param loader the class loader, as that of the application
+     * @param main the resource of the main class without {@code .class}, as {@code bzip2/Bzip2}, whose class there is {@code Bzip2}
+     * @return the program
+     * @throws IllegalArgumentException as {@link #of}
+     */
+    public static Program ofClassPath(ClassLoader loader, String main) {
+        int start = main.lastIndexOf('/') + 1;
+        String className = main.substring(start);
+        return new Program(new ResourceSource(loader, main.substring(0, start)), className, className, loader);
     }
 
     /**
@@ -143,8 +166,8 @@ public final class Program implements Serializable {
      *
      * @param snapshot the state of the run. It stays as it is, and may be used again
      * @return the call: {@link Call#run} makes the rest of it, and {@link Call#start} slices where this program is metered. Both throw an
-     *     {@code IllegalArgumentException} where the snapshot is one of another program, or has pages or a program break that this one cannot have. Methods for what the
-     *     snapshot has, as {@link Call#file} and {@link Call#heap}, throw an {@code IllegalStateException}
+     *     {@code IllegalArgumentException} where the snapshot is one of another program, or has pages or a program break that this one cannot have. Methods
+     *     for what the snapshot has, as {@link Call#file} and {@link Call#heap}, throw an {@code IllegalStateException}
      */
     public Call call(Snapshot snapshot) {
         return new Call(this, Objects.requireNonNull(snapshot));
@@ -180,8 +203,13 @@ public final class Program implements Serializable {
     }
 
     private Copy newCopy() {
+        return copyOf(null);
+    }
+
+    /** A copy with a main class that is loaded already, or with classes of its own where it is null. */
+    private Copy copyOf(Class<?> loaded) {
         try {
-            return new Copy(source, className, images);
+            return loaded == null ? new Copy(source, className, images) : new Copy(loaded, images);
         } catch (ReflectiveOperationException | LinkageError refused) {
             throw new IllegalArgumentException(className + " is no main class of a program: " + refused.getMessage(), refused);
         }

@@ -33,7 +33,8 @@ final class SnapshotTests {
     }
 
     private static Call begin(Program program, String... arguments) {
-        return program.call(arguments).moment(1_000_000_000).blocks(16).file("a", Texts.bytes("a file of 21 characters")).input(Texts.bytes("one\ntwo\nthree\n"));
+        byte[] file = Texts.bytes("a file of 23 characters");
+        return program.call(arguments).moment(1_000_000_000).blocks(16).file("a", file).input(Texts.bytes("one\ntwo\nthree\n"));
     }
 
     /** The program, in classes of its own. */
