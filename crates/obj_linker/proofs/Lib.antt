@@ -1,4 +1,6 @@
 pub mod NameLemmas
+pub mod TextLemmas
+pub mod NamingLemmas
 pub mod KnownLemmas
 pub mod PairLemmas
 pub mod LayoutLemmas

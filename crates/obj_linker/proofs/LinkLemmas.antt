@@ -70,3 +70,21 @@ undefined_here files sections ss symbols ys relocations rs meanings ms e s y r m
     (ap (λ l. relocation_fault_of 9 (first_alone l)) (sym r) ∙ ap (relocation_fault_of 9) alone)
     (ap (λ l. symbol_fault_of 10 (first_repeated files [] l)) (sym y) ∙ ap (symbol_fault_of 10) again)
     (subst (λ o. IsAnswer (relocation_fault_of 11 o) e) (undefined_same files sections ss symbols ys relocations rs meanings ms s y r m are) fault)
+
+three : (a b c : Option ObjFault) → a ≡ None → b ≡ None → c ≡ None → option_or a (option_or b (option_or c None)) ≡ None
+three a b c p q r =
+    ap (λ o. option_or o (option_or b (option_or c None))) p ∙ ap (λ o. option_or o (option_or c None)) q ∙ ap (λ o. option_or o None) r
+
+-- no fault, where all three checks pass
+pub names_pass : (files : List (List ℕ)) (sections ss : List Section) (symbols ys : List Symbol) (relocations rs : List Relocation)
+    (meanings ms : List Meaning) → ss ≡ sections → ys ≡ symbols → rs ≡ relocations → ms ≡ meanings
+    → meanings ≡ map (meaning_of files ys) ys → first_alone rs ≡ None → first_repeated files [] ys ≡ None
+    → find (is_undefined ss ms) rs ≡ None → names_fault files sections symbols relocations ≡ None
+unfolding names_fault
+names_pass files sections ss symbols ys relocations rs meanings ms s y r m are alone again none =
+    three (relocation_fault_of 9 (first_alone relocations)) (symbol_fault_of 10 (first_repeated files [] symbols))
+    (relocation_fault_of 11 (find (is_undefined sections (meanings_of files symbols)) relocations))
+    (ap (λ l. relocation_fault_of 9 (first_alone l)) (sym r) ∙ ap (relocation_fault_of 9) alone)
+    (ap (λ l. symbol_fault_of 10 (first_repeated files [] l)) (sym y) ∙ ap (symbol_fault_of 10) again)
+    (ap (relocation_fault_of 11)
+    (sym (undefined_same files sections ss symbols ys relocations rs meanings ms s y r m are) ∙ none))

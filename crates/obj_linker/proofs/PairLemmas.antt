@@ -52,14 +52,14 @@ set_in section symbol m n offset lows h e a b =
 
 -- ---- the loop
 -- what is behind a place, with one relocation more
-pub behind_more : (all rest before : List Relocation) (r : Relocation) → rest ++ drop (length rest) all ≡ all → rest ≡ before ++ r ∷ []
+pub behind_more : {X : Type 0} (all rest before : List X) (r : X) → rest ++ drop (length rest) all ≡ all → rest ≡ before ++ r ∷ []
     → drop (length before) all ≡ r ∷ drop (length rest) all
 behind_more all rest before r whole cut =
     let later = drop (length rest) all in
     let shape : before ++ (r ∷ later) ≡ all = sym (append_assoc before (r ∷ []) later) ∙ ap (λ l. l ++ later) (sym cut) ∙ whole in
     ap (drop (length before)) (sym shape) ∙ drop_at before (r ∷ later) (length before) refl
 
-pub whole_more : (all rest before : List Relocation) (r : Relocation) → rest ++ drop (length rest) all ≡ all → rest ≡ before ++ r ∷ []
+pub whole_more : {X : Type 0} (all rest before : List X) (r : X) → rest ++ drop (length rest) all ≡ all → rest ≡ before ++ r ∷ []
     → before ++ drop (length before) all ≡ all
 whole_more all rest before r whole cut =
     let later = drop (length rest) all in

@@ -1,15 +1,15 @@
 -- What is known of the names of the symbols so far.
-use Rattle.std.specs.Prelude.{ℕ, Bool, false, not, ◌&&◌, ◌||◌, ◌==◌, if◌then◌else◌, List, [], ◌∷◌, map, Option, Some, None, bytes_eq, is_some}
+use Rattle.std.specs.Prelude.{ℕ, Bool, false, not, ◌&&◌, ◌||◌, ◌==◌, if◌then◌else◌, List, Option, Some, None, nat_eq, unwrap_or, is_some}
 use Rattle.std.specs.List.{find, list_any}
 use Rattle.std.specs.Option.{option_map_or, option_or}
-use Rattle.std.specs.BTreeMap.{BTreeMap}
+use Rattle.std.specs.Map.{lookup}
 use Rattle.obj_linker.specs.declared.meaning.Meaning.{Meaning}
 use Rattle.obj_linker.specs.declared.meaning.Meaning.TheVariants.{Number}
 use Rattle.obj_linker.specs.declared.name.Name.{Name}
+use Rattle.obj_linker.specs.declared.named_symbol.NamedSymbol.{NamedSymbol}
 use Rattle.obj_reader.specs.declared.symbol.Symbol.{Symbol}
 use Rattle.obj_reader.specs.Symbols.{binding, is_defined, is_local}
-use Rattle.obj_linker.specs.Names.{defines, defines_weakly, needs, missing_meaning, name_of_symbol, own_meaning}
-use denote.Ref.{Bor}
+use Rattle.obj_linker.specs.Names.{defines, defines_weakly, needs, missing_meaning, own_meaning}
 
 abbrev pub unknown : Name
 unknown = record { global = None; weak = None; is_needed = false }
@@ -38,30 +38,28 @@ abbrev pub name_meaning : Name → Meaning
 name_meaning known =
     option_map_or own_meaning (name_definition known) (missing_meaning known.is_needed)
 
--- names, each with what is known of it
+-- names by their numbers, each with what is known of it
 abbrev pub NameList : Type 0
-NameList = List (List ℕ × Name)
+NameList = List (ℕ × Name)
 
-abbrev pub kept_names : BTreeMap (Bor (List ℕ)) Name → NameList
-kept_names m = map (λ e. (e.0.now, e.1)) m.entries
-
-abbrev pub known_in : NameList → List ℕ → Name
-known_in [] name = unknown
-known_in (n ∷ names) name = if bytes_eq n.0 name then n.1 else known_in names name
+abbrev pub known_in : NameList → ℕ → Name
+known_in names name = unwrap_or (lookup (nat_eq name) names) unknown
 
 -- a symbol defines a name that is defined already, both globally
-abbrev pub again : NameList → List ℕ → Symbol → Bool
-again names name s = is_defined s && binding s == 1 && is_some (known_in names name).global
+abbrev pub again : NameList → NamedSymbol → Bool
+again names s =
+    is_defined s.symbol && binding s.symbol == 1 && is_some (known_in names s.name).global
 
 -- what is known of a name with one more symbol, where a local one says nothing
-abbrev pub known_with : List (List ℕ) → NameList → Symbol → List ℕ → Name
-known_with files names s other =
-    if not (is_local s) && bytes_eq (name_of_symbol files s) other
-    then with_symbol (known_in names (name_of_symbol files s)) s
+abbrev pub known_with : NameList → NamedSymbol → ℕ → Name
+known_with names s other =
+    if not (is_local s.symbol) && s.name == other
+    then with_symbol (known_in names s.name) s.symbol
     else known_in names other
 
 -- what a symbol means, beside the names of all
-abbrev pub meaning_by : NameList → List (List ℕ) → Symbol → Meaning
-meaning_by names files s =
-    if s.number == 0 then Number 0
-    else (if is_local s then own_meaning s else name_meaning (known_in names (name_of_symbol files s)))
+abbrev pub meaning_by : NameList → NamedSymbol → Meaning
+meaning_by names s =
+    if s.symbol.number == 0 then Number 0
+    else (if is_local s.symbol then own_meaning s.symbol
+    else name_meaning (known_in names s.name))

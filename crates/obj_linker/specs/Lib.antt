@@ -1,5 +1,7 @@
 pub mod Names
+pub mod Texts
 pub mod Known
+pub mod Naming
 pub mod Whole
 pub mod Pairs
 pub mod Layout

@@ -1,26 +1,29 @@
 //! Where a program begins.
-ghost use Rattle.std.specs.Prelude.{◌≡◌, List, ℕ, None, Some, not, ◌||◌, is_none};
+ghost use Rattle.std.specs.Prelude.{◌≡◌};
 ghost use Rattle.std.specs.List.{list_any};
-ghost use Rattle.obj_linker.specs.Known.{known_in, name_definition};
+ghost use Rattle.obj_linker.specs.Known.{name_definition};
 ghost use Rattle.obj_reader.specs.Sections.{is_code_object_section};
 ghost use Rattle.obj_linker.specs.Link as spec;
 
 use crate::meaning::Meaning;
-use crate::names::Names;
+use crate::name::Name;
 use crate::sites::{is_section_placed, value_of};
 use obj_reader::Section;
 
+/// The name of a symbol at which a program begins.
+#[derive(Clone, Copy)]
+pub struct Entry<'a> {
+    pub name: &'a [u8],
+    /// What is known of it.
+    pub known: Name,
+}
+
 /// The address of a name that is defined in a section with a place, among all sections and their places.
-pub fn entry_of<'a>(
-    names: &Names<'a>,
-    sections: &[Section],
-    places: &[u32],
-    entry: &'a [u8],
-) -> Option<u32>
+pub fn entry_of(entry: &Name, sections: &[Section], places: &[u32]) -> Option<u32>
     ensures { result ≡ spec.entry_address sections.now places.now
-        (spec.defined_meaning (name_definition (known_in names.now entry.now))) }
+        (spec.defined_meaning (name_definition entry.now)) }
 {
-    let meaning = match names.get(entry).definition() {
+    let meaning = match entry.definition() {
         Some(s) => Meaning::of(&s),
         None => Meaning::Nothing,
     };

@@ -13,7 +13,7 @@ use std::alloc::Global;
 ///
 /// There are at most 256 objects of at most 67,108,864 bytes each, which `first_too_large` tests. The text begins at 00400000
 /// (hexadecimal) with the code, the data at 10000000. Time and memory go by what is read of the objects: their symbols, their
-/// relocations and the sections that are placed. Names are looked up in a sorted map.
+/// relocations and the sections that are placed. Names are compared by number.
 ///
 /// # Errors
 /// `Refused` with the first check that the objects fail; `NoMemory` where there is not enough memory.
@@ -26,8 +26,8 @@ pub fn link_objects(alloc: Global, objects: &[Vec<u8>], entry: &str) -> Result<V
     ensures refused { IfErr result (IsAnswer (spec.objects_fault (files_of objects.now) entry.now)) }
 {
     let tables = read_objects(alloc, objects)?;
-    let resolved = resolve(alloc, objects, &tables)?;
-    let placed = place(alloc, objects, &tables, &resolved, entry.as_bytes())?;
+    let resolved = resolve(alloc, objects, &tables, entry.as_bytes())?;
+    let placed = place(alloc, objects, &tables, &resolved)?;
     let file = write_program(alloc, placed.entry, placed.image.as_slice(), &placed.ends)?;
     Ok(file)
 }

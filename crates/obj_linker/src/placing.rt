@@ -1,10 +1,10 @@
 //! Where everything is placed, and the words that follow from it.
-ghost use Rattle.std.specs.Prelude.{◌≡◌, ◌≤◌, ℕ, List, IfErr, IfOk, OnOk, None, Some, false, not, ◌||◌, is_none, length};
+ghost use Rattle.std.specs.Prelude.{◌≡◌, ◌≤◌, IfErr, IfOk, OnOk, None, Some, false, not, ◌||◌, is_none, length};
 ghost use Rattle.obj_linker.specs.Image.{linked_bytes};
 ghost use Rattle.obj_linker.specs.Cursor.{IsEnds};
 ghost use Rattle.obj_reader.specs.Fault.{IsAnswer, object_fails};
 ghost use Rattle.obj_reader.specs.Files.{files_of};
-ghost use Rattle.obj_linker.specs.Known.{known_in, known_of};
+ghost use Rattle.obj_linker.specs.Known.{known_of};
 ghost use Rattle.obj_linker.specs.Layout.{is_too_large, places_of};
 ghost use Rattle.obj_linker.specs.Link as spec;
 ghost use Rattle.obj_linker.specs.Pairs.{lows};
@@ -33,26 +33,25 @@ pub struct Placed {
 
 /// Places the sections and relocates them, with the checks of sizes, jumps and the entry.
 #[tactic(auto, unfolding(crate::specs::Link::program_fault, crate::specs::Link::entry_of))]
-pub fn place<'a>(
+pub fn place(
     alloc: Global,
-    objects: &'a [Vec<u8>],
+    objects: &[Vec<u8>],
     tables: &Tables,
-    resolved: &Resolved<'a>,
-    entry: &'a [u8],
+    resolved: &Resolved,
 ) -> Result<Placed, ObjError>
     requires lows { resolved.now.lows.items ≡ lows tables.now.relocations.items }
-    requires names { (name : List ℕ) → known_in resolved.now.names name
-        ≡ known_of (files_of objects.now) tables.now.symbols.items name }
+    requires entry { resolved.now.entry.known ≡ known_of (files_of objects.now)
+        tables.now.symbols.items resolved.now.entry.name.now }
     requires meanings { resolved.now.meanings.items
         ≡ spec.meanings_of (files_of objects.now) tables.now.symbols.items }
     ensures refused { IfErr result (IsAnswer (spec.program_fault (files_of objects.now)
         tables.now.sections.items tables.now.symbols.items tables.now.relocations.items
-        entry.now)) }
+        resolved.now.entry.name.now)) }
     ensures passed { OnOk result (spec.program_fault (files_of objects.now)
         tables.now.sections.items tables.now.symbols.items tables.now.relocations.items
-        entry.now ≡ None) }
+        resolved.now.entry.name.now ≡ None) }
     ensures entry { IfOk result (λ p. spec.entry_of (files_of objects.now)
-        tables.now.sections.items tables.now.symbols.items entry.now ≡ Some p.entry) }
+        tables.now.sections.items tables.now.symbols.items resolved.now.entry.name.now ≡ Some p.entry) }
     ensures image { IfOk result (λ p. p.image.items ≡ spec.linked_image (files_of objects.now)
         tables.now.sections.items tables.now.symbols.items tables.now.relocations.items) }
     ensures short { IfOk result (λ p. length p.image.items ≤ 33554432) }
@@ -62,7 +61,7 @@ pub fn place<'a>(
     let ends = check_size(sections)?;
     let places = places_of(alloc, sections, &ends)?;
     let image = linked_image(alloc, objects, tables, resolved, places.as_slice(), &ends)?;
-    let address = entry_of(&resolved.names, sections, places.as_slice(), entry);
+    let address = entry_of(&resolved.entry.known, sections, places.as_slice());
     let at = check_entry(has_code(sections), address)?;
     Ok(Placed {
         entry: at,

@@ -12,6 +12,6 @@ returns-clause-file c =
     let bytes = c.in_ok-file.file.items in
     linked files t.sections.items t.symbols.items t.relocations.items c.args.entry.now bytes c.in_ok-tables.ensures.sections
     c.in_ok-tables.ensures.symbols c.in_ok-tables.ensures.relocations
-    (subst (λ (e : List ℕ). IsFileWith files t.sections.items t.symbols.items t.relocations.items e bytes) c.as_bytes.ensures.value
-    (file_with files t.sections.items t.symbols.items t.relocations.items c.as_bytes.result.now bytes c.as_slice.result.now p.entry p.ends
+    (subst (λ (e : List ℕ). IsFileWith files t.sections.items t.symbols.items t.relocations.items e bytes) (c.in_ok-resolved.ensures.name ∙ c.as_bytes.ensures.value)
+    (file_with files t.sections.items t.symbols.items t.relocations.items c.in_ok-resolved.resolved.entry.name.now bytes c.as_slice.result.now p.entry p.ends
     c.in_ok-placed.ensures.entry (c.as_slice.ensures.value ∙ c.in_ok-placed.ensures.image) c.in_ok-placed.ensures.ends c.in_ok-file.ensures))

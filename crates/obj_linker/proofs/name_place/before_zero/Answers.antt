@@ -1,6 +1,6 @@
 use Rattle.std.proofs.Common.{sym}
 use Rattle.obj_linker.proofs.KnownLemmas.{before_place, before_none}
-use Rattle.obj_linker.proofs.name_table.before_zero.Goals as goal
+use Rattle.obj_linker.proofs.name_place.before_zero.Goals as goal
 
 pub returns-in-Some : goal.returns-in-Some
 returns-in-Some c = before_place c.args.bytes.now c.in-Some.end (sym c.in-Some.ensures.place)
