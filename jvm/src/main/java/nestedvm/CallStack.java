@@ -189,6 +189,15 @@ final class CallStack {
 
     // ---- calls by the program
 
+    /**
+     * A function has returned to the address that is no code, so what it gives is in the fields. Null where the program has come there in the midst of a
+     * function, whose stack pointer is below that of its entry.
+     */
+    Returned returned() {
+        Returned returned = registers.returned(this);
+        return returned == direct || Integer.compareUnsigned(returned.stack(), entry) > 0 ? returned : null;
+    }
+
     /** A function returns, with the stack pointer with which it was entered. */
     Returned returned(int first, int second, int stack) {
         if (stack != entry) {

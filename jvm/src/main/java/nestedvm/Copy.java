@@ -68,6 +68,11 @@ final class Copy {
         return PUBLIC.findStaticSetter(main, name, int.class);
     }
 
+    /** What gives a field of the main class that is an int. */
+    MethodHandle getter(String name) throws ReflectiveOperationException {
+        return PUBLIC.findStaticGetter(main, name, int.class);
+    }
+
     /** The table of pages that a field of the main class has. */
     int[][] table(String name) throws ReflectiveOperationException {
         return (int[][]) main.getField(name).get(null);

@@ -95,6 +95,14 @@ final class GuestSystem {
         return SystemState.of(heap.programBreak(), files, descriptors, input, output, errorOutput);
     }
 
+    /** The guest has come to the address to which functions return: the run is left where one has, and else it faults there. */
+    void leaveWhereReturned() {
+        Departure returned = hostCalls.returned();
+        if (returned != null) {
+            throw returned;
+        }
+    }
+
     /** The order of the bytes of words, which the guest names as it begins. */
     ByteOrder order() {
         return order;

@@ -56,6 +56,9 @@ public final class Host {
         if (kind == Meter.KIND && system != null) {
             system.meter().spend(pc);
         }
+        if (pc == Registers.RETURN && system != null) {
+            system.leaveWhereReturned();
+        }
         throw new Ended(Answer.faulted(new Fault(kind, pc, value)));
     }
 }

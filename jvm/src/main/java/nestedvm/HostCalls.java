@@ -10,6 +10,13 @@ interface HostCalls {
         throw new Refusal(Refusal.NO_CALL);
     };
 
+    /**
+     * What a function leaves the run by that has returned to the address {@link Registers#RETURN}, or null where the host has called none.
+     */
+    default Departure returned() {
+        return null;
+    }
+
     /** The answer to a call with a number and four words. */
     int answer(int number, int a0, int a1, int a2, int a3) throws Refusal;
 }

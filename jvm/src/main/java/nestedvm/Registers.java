@@ -11,6 +11,12 @@ import java.lang.invoke.MethodType;
  * them together: a call of a function is then as short as it can be.
  */
 final class Registers {
+    /**
+     * The address to which functions return: there is no page, so the choice of a method itself comes to its fault, and what leaves the run there has no
+     * method of the program's code to leave, which takes long. All registers are in fields where a method is chosen.
+     */
+    static final int RETURN = 0xFFFFFFF0;
+
     private static final int WORD_BYTES = 4;
     private static final int REGISTER_WORDS = 4;
 
@@ -20,10 +26,19 @@ final class Registers {
     /** Takes the words of r29, pc and lf. */
     private final MethodHandle goOn;
 
+    /** Gives what a function leaves the run by that has returned. */
+    private final MethodHandle returned;
+
     Registers(Copy copy) throws ReflectiveOperationException {
         MethodHandle play = catchingDeparture(copy.choose());
         enter = setting(copy, play, "r4", "r5", "r6", "r7", "r28", "r29", "r31", "pc", "lf");
         goOn = setting(copy, play, "r29", "pc", "lf");
+        MethodType type = MethodType.methodType(Returned.class, int.class, int.class, int.class);
+        MethodHandle all = MethodHandles.lookup().findVirtual(CallStack.class, "returned", type);
+        for (String field : new String[] {"r2", "r3", "r29"}) {
+            all = MethodHandles.collectArguments(all, 1, copy.getter(field));
+        }
+        returned = all;
     }
 
     /** Gives what a method is left by, and null where it returns. */
@@ -62,7 +77,18 @@ final class Registers {
         int r5 = words.length > 1 ? words[1] : 0;
         int r6 = words.length > 2 ? words[2] : 0;
         int r7 = words.length > 3 ? words[3] : 0;
-        return (Departure) enter.invokeExact(r4, r5, r6, r7, ready.global(), stack, ready.back(), function, 0);
+        return (Departure) enter.invokeExact(r4, r5, r6, r7, ready.global(), stack, RETURN, function, 0);
+    }
+
+    /** What a function of some calls leaves the run by that has returned to {@link #RETURN}. */
+    Returned returned(CallStack calls) {
+        try {
+            return (Returned) returned.invokeExact(calls);
+        } catch (RuntimeException | Error thrown) {
+            throw thrown;
+        } catch (Throwable impossible) {
+            throw new IllegalStateException(impossible);
+        }
     }
 
     /** The program goes on at a place, of which it needs no register but its stack pointer, until it leaves. */

@@ -28,6 +28,11 @@ final class ResidentCalls implements HostCalls {
     }
 
     @Override
+    public Departure returned() {
+        return stack == null ? null : stack.returned();
+    }
+
+    @Override
     public int answer(int number, int a0, int a1, int a2, int a3) throws Refusal {
         if (stack == null) {
             return prepare(number, a0, a1, a2, a3);

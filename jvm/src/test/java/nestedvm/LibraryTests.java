@@ -301,4 +301,16 @@ final class LibraryTests {
         assertEquals("1\n", Texts.text(failed.result().output()));
         assertEquals(1, Guests.program("functions").call().run().status());
     }
+
+    @Test
+    @DisplayName("a function that calls the address to which functions return faults there")
+    void returnAddress() throws IOException {
+        try (Library library = Guests.program("types").call().library(); Memory sample = library.allocateMemory(64)) {
+            sample.write(0, new byte[64]);
+            CallFailed failed = assertThrows(CallFailed.class, () -> library.call(library.function("each"), sample.address(), Registers.RETURN));
+            assertEquals(1, failed.result().fault().kind());
+            assertEquals(Registers.RETURN, failed.result().fault().address());
+            assertEquals(3, library.call(library.function("add"), 1, 2));
+        }
+    }
 }
