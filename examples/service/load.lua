@@ -1,7 +1,8 @@
--- What wrk sends: the same query again and again, with the key that the variable KEY has. At the end a line: answers, answers a second, answers of
--- another status than 200, failures of connections, and the milliseconds within which 50, 99 and 99.9 per cent were answered.
+-- What wrk sends: the same query again and again, the one that the variable SQL has, with the key that KEY has. At the end a line: answers,
+-- answers a second, answers of another status than 200, failures of connections, and the milliseconds within which 50, 99 and 99.9 per cent
+-- were answered.
 wrk.method = "POST"
-wrk.body = "SELECT kind, count(*) AS number, sum(weight) AS weight FROM data WHERE weight > 10 GROUP BY kind ORDER BY kind;"
+wrk.body = os.getenv("SQL") or "SELECT kind, count(*) AS number, sum(weight) AS weight FROM data WHERE weight > 10 GROUP BY kind ORDER BY kind;"
 wrk.headers["Authorization"] = "Bearer " .. os.getenv("KEY")
 
 function done(summary, latency)

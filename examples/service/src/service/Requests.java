@@ -24,6 +24,7 @@ final class Requests implements HttpHandler {
     /** The most bytes of a request. */
     static final int MOST_INPUT = 1 << 20;
 
+    private static final String JSON = "application/json";
     private static final String SCHEME = "Bearer ";
     private static final Pattern PATH = Pattern.compile("/tables/[A-Za-z][A-Za-z0-9_]{0,30}");
 
@@ -42,17 +43,8 @@ final class Requests implements HttpHandler {
     @Override
     public void handle(HttpExchange exchange) throws IOException {
         counters.begin();
-        int status = 200;
-        byte[] body;
         try {
-            try {
-                body = answer(exchange);
-            } catch (Refused refused) {
-                status = refused.status();
-                body = errorOf(refused.getMessage());
-            }
-            Answers.send(exchange, status, "application/json", body);
-            counters.answered(status);
+            counters.answered(serve(exchange));
         } catch (IOException left) {
             counters.clientLeft();
         } catch (RuntimeException | Error thrown) {
@@ -63,8 +55,34 @@ final class Requests implements HttpHandler {
         }
     }
 
-    private byte[] answer(HttpExchange exchange) throws Refused, IOException {
-        Tenant tenant = tenantOf(exchange.getRequestHeaders());
+    /** Answers a request, and gives the status. It has a place of its tenant before its body is read, and until its answer is written. */
+    private int serve(HttpExchange exchange) throws IOException {
+        Tenant tenant;
+        try {
+            tenant = tenantOf(exchange.getRequestHeaders());
+            tenant.enter();
+        } catch (Refused refused) {
+            return refuse(exchange, refused);
+        }
+        try {
+            Answers.send(exchange, 200, JSON, answer(tenant, exchange));
+            return 200;
+        } catch (Refused refused) {
+            return refuse(exchange, refused);
+        } finally {
+            tenant.leave();
+        }
+    }
+
+    private static int refuse(HttpExchange exchange, Refused refused) throws IOException {
+        if (refused.status() == 429) {
+            exchange.getResponseHeaders().set("Retry-After", "1");
+        }
+        Answers.send(exchange, refused.status(), JSON, errorOf(refused.getMessage()));
+        return refused.status();
+    }
+
+    private byte[] answer(Tenant tenant, HttpExchange exchange) throws Refused, IOException {
         String path = exchange.getRequestURI().getPath();
         if (!PATH.matcher(path).matches()) {
             throw new Refused(404, "there is no " + path);

@@ -19,8 +19,8 @@ import nestedvm.Program;
 
 /** A service that answers SQL over tables which its tenants send. It is the JDK's own server, and runs SQLite's shell for each of them. */
 public final class Service {
-    /** The threads that read requests and write answers. A client that is slow holds one of them. */
-    private static final int THREADS = 64;
+    /** The threads beside one for each place of a tenant: they read who asks, and refuse. */
+    private static final int MORE_THREADS = 16;
 
     /** Calls that are made before the first request is taken, so that the guest's code is compiled. */
     private static final int FIRST_CALLS = 20;
@@ -43,10 +43,11 @@ public final class Service {
         warm(new Engine(shell, LONG));
         Engine engine = new Engine(shell, Duration.ofMillis(Long.parseLong(words[2])));
         Counters counters = new Counters();
-        Requests requests = new Requests(tenants(Paths.get(words[3]), guests), engine, new Turns(guests), counters);
+        Map<String, Tenant> tenants = tenants(Paths.get(words[3]), guests);
+        Requests requests = new Requests(tenants, engine, new Turns(guests), counters);
         byte[] page = page();
         HttpServer server = HttpServer.create(new InetSocketAddress(InetAddress.getLoopbackAddress(), Integer.parseInt(words[0])), 128);
-        server.setExecutor(Executors.newFixedThreadPool(THREADS));
+        server.setExecutor(Executors.newFixedThreadPool(tenants.size() * Tenant.MOST_REQUESTS + MORE_THREADS));
         server.createContext("/tables/", requests);
         server.createContext("/status", exchange ->
             Answers.send(exchange, 200, "application/json", counters.toJson().getBytes(StandardCharsets.UTF_8)));

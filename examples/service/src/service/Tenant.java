@@ -4,7 +4,7 @@ import java.util.HashMap;
 import java.util.Map;
 import java.util.concurrent.Semaphore;
 
-/** Who uses the service: tables of its own, and a share of the guests that run at a time. */
+/** Who uses the service: tables of its own, a share of the guests that run at a time, and places for requests, running or waiting. */
 final class Tenant {
     /** The most bytes of all databases of a tenant. */
     static final int MOST_BYTES = 16 << 20;
@@ -12,12 +12,28 @@ final class Tenant {
     /** The most tables of a tenant. */
     static final int MOST_TABLES = 16;
 
+    /** The most requests of a tenant at a time: those that run, and those that wait for their turn. */
+    static final int MOST_REQUESTS = 16;
+
     private final Map<String, byte[]> databases = new HashMap<>();
+    private final Semaphore places = new Semaphore(MOST_REQUESTS);
     private final Semaphore share;
 
     /** A tenant that may run so many guests at a time. */
     Tenant(int guests) {
         share = new Semaphore(guests, true);
+    }
+
+    /** Begins a request, which has a place until {@link #leave}. It does not wait: without a free place the request is refused. */
+    void enter() throws Refused {
+        if (!places.tryAcquire()) {
+            throw new Refused(429, "a tenant has at most " + MOST_REQUESTS + " requests at a time");
+        }
+    }
+
+    /** Ends a request that has entered. */
+    void leave() {
+        places.release();
     }
 
     /** The guests that this tenant may still start. */

@@ -18,9 +18,9 @@ final class Turns {
 
     /** Does some work of a tenant when it is its turn, in this thread. */
     <T> T take(Tenant tenant, Callable<T> work) throws Exception {
-        enter(tenant.share(), 429, "this tenant has too many queries");
+        enter(tenant.share(), 429, "other queries of this tenant take all turns");
         try {
-            enter(guests, 503, "the service has too many queries");
+            enter(guests, 503, "queries of other tenants take all turns");
             try {
                 return work.call();
             } finally {
