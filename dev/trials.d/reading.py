@@ -39,6 +39,13 @@ def constant_at(entries, slot):
     return ("none",)
 
 
+def name_of(data):
+    """The name that a class gives itself."""
+    entries, behind = pool_of(data)
+    (this_class,) = struct.unpack_from(">H", data, behind + 2)
+    return constant_at(entries, this_class)[1]
+
+
 def classes_named(data):
     entries, _ = pool_of(data)
     return [constant_at(entries, slot)[1] for slot, entry in entries.items() if entry[0] == 7]

@@ -6,12 +6,13 @@ Left out, since docs/CLASSES.md differs (inference.py says where):
 - AALOAD of null gives null there, of which any reference may be made, and an array of ints here. AASTORE takes any reference there, and tests it when
   it runs, and null or an array of ints here. ANEWARRAY has any type there, and [I alone here.
 - Code that is not reached names a local variable or a constant that is not there for it. It has no rule here.
+- A file whose class has another name: names that classes give themselves are not looked at here.
 - Of the files with other bytes those that this profile does not read, and those whose names mean nothing: they are resolved at a run there.
 """
 from class_files import BRANCHES, CALL, CHAR_AT, DESCRIPTORS, FAULT, KINDS, LENGTH, LOCALS, PLAIN, SLOTS, ClassFile
 from inference import Inference, effect_of
 from java_side import Java, write_classes
-from reading import classes_named, methods_of
+from reading import classes_named, methods_of, name_of
 from typed_code import FUEL, PUT, SHUFFLES, TABLE, ClassSet, Method, any_int, any_long, any_text, constant_int, width
 
 CASES = 5000
@@ -263,6 +264,8 @@ def rule_for(is_typed, files):
     beyond = sorted(set().union(*(f.beyond for f in found)))
     if not is_typed and beyond:
         return beyond[0]
+    if is_typed and any(name_of(data) != name for name, data in files.items()):
+        return "a file whose class has another name"
     if is_typed and any(f.dead_is_wrong() for f in found):
         return "code that is not reached"
     return None
