@@ -45,7 +45,7 @@ public final class LibraryCalls {
     }
 
     /** What is timed: so many calls of something. */
-    private interface Timed {
+    interface Timed {
         void run(int count);
     }
 
@@ -140,7 +140,8 @@ public final class LibraryCalls {
         System.out.printf("bytes written: %.1f GB/s, read: %.1f GB/s%n", BYTES / writing, BYTES / reading);
     }
 
-    private static void tell(String name, int count, Timed timed) {
+    /** Prints the least nanoseconds of one of so many calls. */
+    static void tell(String name, int count, Timed timed) {
         System.out.printf("%s: %.0f ns%n", name, least(count, timed));
     }
 
