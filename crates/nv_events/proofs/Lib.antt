@@ -1,7 +1,9 @@
 pub mod Examples
 pub mod LeadsLaws
+pub mod CountLaws
 pub mod Progress
 pub mod Rooms
 pub mod RunLaws
 pub mod TurnLaws
 pub mod MoveLaws
+pub mod PageLemmas

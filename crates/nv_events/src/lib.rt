@@ -5,6 +5,7 @@ mod call_table;
 pub mod laws;
 mod machine;
 mod patch;
+mod ranges;
 mod reply;
 mod runs;
 mod scripted;
@@ -13,6 +14,7 @@ mod view;
 
 pub use call_table::places;
 pub use machine::Machine;
+pub use ranges::{has_room, is_readable};
 pub use reply::Reply;
 pub use run_definition::{Call, Fault, IoFault, Outcome, Places, TextPlace};
 pub use runs::run;

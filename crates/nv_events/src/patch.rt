@@ -5,20 +5,8 @@ ghost use Rattle.run_definition.specs.Memory.{can_write, patched};
 ghost use Rattle.run_definition.specs.Question.{room_at};
 ghost use Rattle.run_definition.specs.Answer.{fits_room, room_place};
 
+use crate::ranges::has_room;
 use crate::view::View;
-
-/// Whether each of the addresses from `place` on may be written; none is past FFFFFFFF.
-fn all_writable<V: View>(view: &V, place: u32, size: u32) -> bool
-    ensures { result ≡ can_write (V.memory (V.content view.now)) place size }
-{
-    for i in 0..size {
-        match place.checked_add(i) {
-            Some(at) if view.writable(at) => {}
-            _ => return false,
-        }
-    }
-    true
-}
 
 /// Whether a patch is empty, or its room is there and no shorter.
 pub fn fits<V: View>(patch: &[u8], room: Option<(u32, u32)>, view: &V) -> bool
@@ -28,7 +16,7 @@ pub fn fits<V: View>(patch: &[u8], room: Option<(u32, u32)>, view: &V) -> bool
         return true;
     }
     match room {
-        Some((place, size)) => patch.len() <= size as usize && all_writable(view, place, size),
+        Some((place, size)) => patch.len() <= size as usize && has_room(view, place, size),
         None => false,
     }
 }
@@ -38,6 +26,7 @@ fn put_all<V: View>(patch: &[u8], place: u32, view: &mut V)
     requires { IsTrue (can_write (V.memory (V.content view.old)) place (length patch.now)) }
     ensures { V.content view.new ≡ patched V.put_at (V.content view.old) place patch.now }
 {
+    view.laws();
     for (i, b) in patch.iter().enumerate() {
         view.put(place + i as u32, *b);
     }

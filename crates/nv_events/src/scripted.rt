@@ -68,8 +68,6 @@ impl Scripted {
 /// It answers the replies in their order. It has no answer exactly if they are used up or the next patch does not fit the
 /// call's room, and from then on.
 impl Server for Scripted {
-    ghost use Rattle.std.proofs.Common.{refl};
-
     ghost State = { List Answer };
 
     ghost reply = { next_answer };
@@ -106,9 +104,7 @@ impl Server for Scripted {
         }
     }
 
-    ghost goes_as_told = { λ s t q a k e w. (t, Prim.cc, refl) };
-
-    ghost held_as_told = { λ s t q k e w. Prim.cc };
+    fn laws(&self) {}
 
     ghost keeps_itself = { λ s. tt };
 

@@ -59,12 +59,14 @@ pub trait Server {
         ensures usable_stays { OnOk result (usable self.new) }
         ensures keeps { keeps self.old self.new };
 
-    /// If the state is told, an answer is the definition's, and the state after it is told.
-    ghost goes_as_told: { (s t : Self) (q : Question) (a : Answer) (k : State) → told s ≡ Some k
-        → goes s q a t → ((l : State) × (reply k q ≡ Some (a, l)) × (told t ≡ Some l)) };
-
-    ghost held_as_told: { (s t : Self) (q : Question) (k : State) → told s ≡ Some k → held s q t
-        → reply k q ≡ None };
+    /// What holds of every server: if its state is told, an answer is the definition's, and the state after it is told. It does nothing: its
+    /// contract is the law.
+    fn laws(&self)
+        ensures goes_as_told { (s t : Self) (q : Question) (a : Answer) (k : State)
+            → told s ≡ Some k → goes s q a t
+            → ((l : State) × (reply k q ≡ Some (a, l)) × (told t ≡ Some l)) }
+        ensures held_as_told { (s t : Self) (q : Question) (k : State) → told s ≡ Some k
+            → held s q t → reply k q ≡ None };
 
     ghost keeps_itself: { (s : Self) → keeps s s };
 

@@ -1,5 +1,6 @@
 ghost use Rattle.std.specs.Prelude.{◌≡◌, ◌≤◌, ◌<◌, ◌^◌, ℕ, Option, None, IsTrue, is_some, if◌then◌else◌};
 ghost use Rattle.run_definition.specs.Memory.{Memory};
+ghost use Rattle.nv_events.specs.ByPages.{IsByPages};
 
 /// A memory of bytes, as a server sees it at a call. None of its calls takes memory.
 pub trait View {
@@ -27,16 +28,20 @@ pub trait View {
         ensures after { content self.new ≡ (if result then put_at (content self.old) at b
             else content self.old) };
 
-    /// What may be written can be read.
-    ghost written_is_readable: { (c : Content) (a : ℕ) → IsTrue ((memory c).writable a)
-        → IsTrue (is_some ((memory c).byte a)) };
-
-    /// Addresses end at 2^32.
-    ghost ends: { (c : Content) (a : ℕ) → 2 ^ 32 ≤ a → (memory c).byte a ≡ None };
-
-    ghost readable_stays: { (c : Content) (a b x : ℕ) → b < 256 → IsTrue ((memory c).writable a)
-        → is_some ((memory (put_at c a b)).byte x) ≡ is_some ((memory c).byte x) };
-
-    ghost writable_stays: { (c : Content) (a b x : ℕ) → b < 256 → IsTrue ((memory c).writable a)
-        → (memory (put_at c a b)).writable x ≡ (memory c).writable x };
+    /// What holds of every content. It does nothing: its contract is the law.
+    ///
+    /// What may be written can be read, and addresses end at 2^32. A byte that is put keeps what can be read and what may be written. Of a
+    /// page of 4,096 addresses the front can be read, or nothing; and the front may be written, or nothing.
+    fn laws(&self)
+        ensures written_is_readable { (c : Content) (a : ℕ) → IsTrue ((memory c).writable a)
+            → IsTrue (is_some ((memory c).byte a)) }
+        ensures ends { (c : Content) (a : ℕ) → 2 ^ 32 ≤ a → (memory c).byte a ≡ None }
+        ensures readable_stays { (c : Content) (a b x : ℕ) → b < 256
+            → IsTrue ((memory c).writable a)
+            → is_some ((memory (put_at c a b)).byte x) ≡ is_some ((memory c).byte x) }
+        ensures writable_stays { (c : Content) (a b x : ℕ) → b < 256
+            → IsTrue ((memory c).writable a)
+            → (memory (put_at c a b)).writable x ≡ (memory c).writable x }
+        ensures reads_by_pages { (c : Content) → IsByPages (λ a. is_some ((memory c).byte a)) }
+        ensures writes_by_pages { (c : Content) → IsByPages (memory c).writable };
 }

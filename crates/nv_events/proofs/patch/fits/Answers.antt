@@ -7,4 +7,4 @@ returns-then-patch-size g c =
     let bs = c.args.patch.now in
     let below : (i : ℕ) → get_or bs i 0 < 256 = λ i. omega (arith, c.type_inv.patch i) in
     let some : 0 < length bs = grind arith in
-    rw c.in-Some.is (c.all_writable.ensures ∙ fits_there (g.V.View.memory (g.V.View.content c.args.view.now)) bs c.in-Some.place c.in-Some.size below some c.if-patch-size.true)
+    rw c.in-Some.is (c.has_room.ensures ∙ fits_there (g.V.View.memory (g.V.View.content c.args.view.now)) bs c.in-Some.place c.in-Some.size below some c.if-patch-size.true)

@@ -1,4 +1,5 @@
 use Rattle.std.proofs.Common.{◌≡◌, ◌-◌, ◌≤◌, false, Some}
+use Rattle.nv_events.specs.Counting.{IsCounted}
 use Rattle.nv_events.proofs.Progress.{Progress, Reaches}
 use Rattle.nv_events.proofs.runs.run.Given as goal
 
@@ -18,6 +19,7 @@ invariant-loop-made g l =
       ready : V.ready l.server ≡ V.ready l.initial.server;
       keeps : V.keeps l.initial.server l.server;
       fixed : M.fixed l.machine ≡ M.fixed l.initial.machine;
+      counts : IsCounted l.made (M.count l.initial.machine) (M.count l.machine);
     }
 
 abbrev pub decreases-loop-made : goal.decreases-loop-made
