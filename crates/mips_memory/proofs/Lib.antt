@@ -8,3 +8,4 @@ pub mod LaneForms
 pub mod PageLemmas
 pub mod WordLemmas
 pub mod ByteLemmas
+pub mod ViewLaws

@@ -21,7 +21,7 @@ use Rattle.mips_definition.specs.declared.names.store_name.StoreName.TheVariants
 use Rattle.mips_memory.specs.ByteList.{memory_in}
 use Rattle.mips_memory.specs.declared.page.Page.TheVariants.{Unmapped}
 use Rattle.mips_memory.specs.Pages.{Pages, is_writable, entry, cell, memory_of, put_byte_at, IsSound}
-use Rattle.mips_memory.specs.ViewLaws.{cell-writable, put_some}
+use Rattle.mips_memory.proofs.ViewLaws.{cell-writable, put_some}
 use Rattle.mips_memory.proofs.ByteLemmas.{memory_in-set}
 use Rattle.mips_memory.proofs.PageLemmas.{stored-there, IsSound-bytes}
 use Rattle.mips_memory.proofs.WordLemmas.{IsAllowedAt, store_aligned-at, store_allowed-at}

@@ -2,6 +2,5 @@ pub mod Loading
 pub mod Pages
 pub mod OneWord
 pub mod ByteList
-pub mod ViewLaws
 pub mod Ops
 pub mod CodeChunks

@@ -2,7 +2,7 @@ use Rattle.std.proofs.Common.{sym, ◌∙◌}
 use Rattle.std.proofs.lemmas.Bool.{ltb-false}
 use Rattle.mips_definition.specs.Loads.{load_aligned}
 use Rattle.mips_memory.specs.Pages.{memory_of}
-use Rattle.mips_memory.specs.ViewLaws.{byte-high}
+use Rattle.mips_memory.proofs.ViewLaws.{byte-high}
 use Rattle.mips_memory.proofs.MemoryLemmas.{load-past, load-unaligned}
 use Rattle.mips_memory.proofs.memory.GuestMemory.load.Goals.{then-is_load_aligned, else-is_load_aligned}
 use Rattle.mips_memory.proofs.memory.GuestMemory.load.Goals as goal

@@ -2,7 +2,7 @@ use Rattle.std.proofs.Common.{ap, sym, subst, ◌∙◌, arith}
 use Rattle.std.specs.Prelude.{slice_set}
 use Rattle.std.proofs.lemmas.List.{length-set}
 use Rattle.mips_memory.specs.Pages.{Pages, IsSound, memory_of}
-use Rattle.mips_memory.specs.ViewLaws.{put_some}
+use Rattle.mips_memory.proofs.ViewLaws.{put_some}
 use Rattle.mips_memory.proofs.MemoryLemmas.{memory_of-put}
 use Rattle.mips_memory.proofs.PageLemmas.{IsSound-bytes}
 use Rattle.mips_memory.proofs.memory.GuestMemoryView.put.Goals as goal

@@ -1,7 +1,8 @@
 -- What holds of the memory of any pages, and of a byte that is put: the laws of a view.
-use Rattle.std.proofs.Common.{◌≡◌, ℕ, ◌+◌, ◌/◌, ◌%◌, ◌≤◌, ◌^◌, true, false, if◌then◌else◌, Option, Some, None, refl, ap, arith, option_map, is_some, nat_lt, IsTrue}
+use Rattle.std.proofs.Common.{◌≡◌, ℕ, ◌+◌, ◌/◌, ◌%◌, ◌≤◌, ◌^◌, true, false, if◌then◌else◌, Option, Some, None, refl, ap, sym, ◌∙◌, arith, option_map, is_some, nat_lt, IsTrue}
 use Rattle.std.specs.Prelude.{slice_index, slice_index_or, slice_set}
 use Rattle.std.proofs.lemmas.Bool.{le-ltb}
+use Rattle.nv_events.specs.ByPages.{IsByPages}
 use Rattle.mips_memory.specs.declared.page.Page.{Page}
 use Rattle.mips_memory.specs.declared.page.Page.TheVariants.{Unmapped, ReadOnly, Writable}
 use Rattle.mips_memory.specs.Pages.{Pages, shift_of, is_writable, entry, cell, memory_of, put_byte_at}
@@ -72,3 +73,25 @@ pub writable_stays : (p : Pages) (a b x : ℕ) → (memory_of (put_byte_at p a b
     ≡ (memory_of p).writable x
 unfolding memory_of
 writable_stays p a b x = ap is_writable (put_keeps_pages p a b (x / 4096) (cell p a) refl)
+
+some_map : (f : ℕ → ℕ) (o : Option ℕ) → is_some (option_map f o) ≡ is_some o
+some_map f None = refl
+some_map f (Some i) = refl
+
+byte_there : (p : Pages) (a : ℕ) → is_some ((memory_of p).byte a)
+    ≡ is_some (shift_of (entry p (a / 4096)))
+unfolding memory_of cell
+byte_there p a =
+    some_map (slice_index p.bytes) (cell p a)
+    ∙ some_map (λ k. (a + k) % 2 ^ 32) (shift_of (entry p (a / 4096)))
+
+-- a page is there or not as a whole
+pub reads_by_pages : (p : Pages) → IsByPages (λ a. is_some ((memory_of p).byte a))
+reads_by_pages p = λ a b le same there. byte_there p a
+    ∙ ap (λ n. is_some (shift_of (entry p n))) same
+    ∙ sym (byte_there p b)
+    ∙ there
+
+pub writes_by_pages : (p : Pages) → IsByPages (memory_of p).writable
+unfolding memory_of
+writes_by_pages p = λ a b le same there. ap (λ n. is_writable (entry p n)) same ∙ there
