@@ -4,3 +4,4 @@ pub mod RegisterLemmas
 pub mod FieldLemmas
 pub mod LinkLemmas
 pub mod MoveLemmas
+pub mod GuestLaws

@@ -5,4 +5,3 @@ pub mod Settling
 pub mod Steps
 pub mod Moving
 pub mod Guest
-pub mod GuestLaws
