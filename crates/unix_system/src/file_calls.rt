@@ -140,6 +140,7 @@ pub fn copy_out<M: View>(disk: &mut Disk, n: usize, from: u32, count: u32, place
         (list_all (λ x. nat_lt x 256) (take count (drop from (bytes_at disk.old n)))) }
     ensures same { disk.new ≡ disk.old }
 {
+    view.laws();
     for i in 0..count {
         let b = disk.byte(n, from + i);
         view.put(place + i, b);

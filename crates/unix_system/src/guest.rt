@@ -1,6 +1,6 @@
 //! The program's memory, as calls read it and write it.
 
-ghost use Rattle.std.specs.Prelude.{◌≡◌, ◌≤◌, ◌<◌, ◌+◌, ◌^◌, IsTrue, IsSome, Some, is_some, length, nat_lt};
+ghost use Rattle.std.specs.Prelude.{◌≡◌, ◌≤◌, ◌<◌, ◌+◌, ◌^◌, IsTrue, IsSome, Some, length, nat_lt};
 ghost use Rattle.std.specs.List.{list_all};
 ghost use Rattle.run_definition.specs.Memory.{can_write, patched, bytes_from};
 
@@ -8,41 +8,16 @@ use crate::path::byte_at;
 use crate::piece::Piece;
 use nv_events::View;
 
-/// Whether each of the addresses from `place` on may be written; none is past FFFFFFFF.
-pub fn has_room<M: View>(view: &M, place: u32, size: u32) -> bool
-    ensures { result ≡ can_write (M.memory (M.content view.now)) place size }
-{
-    for i in 0..size {
-        match place.checked_add(i) {
-            Some(at) if view.writable(at) => {}
-            _ => return false,
-        }
-    }
-    true
-}
-
 /// Puts the bytes one after the other from an address on.
 pub fn put_bytes<M: View>(view: &mut M, place: u32, bytes: &[u8])
     requires { IsTrue (can_write (M.memory (M.content view.old)) place (length bytes.now)) }
     ensures after { M.content view.new ≡ patched M.put_at (M.content view.old) place bytes.now }
     ensures small { IsTrue (list_all (λ x. nat_lt x 256) bytes.now) }
 {
+    view.laws();
     for (i, b) in bytes.iter().enumerate() {
         view.put(place + i as u32, *b);
     }
-}
-
-/// Whether each of the addresses from `at` on can be read; none is past FFFFFFFF.
-pub fn is_readable<M: View>(view: &M, at: u32, size: u32) -> bool
-    ensures { result ≡ is_some (bytes_from (M.memory (M.content view.now)) at size) }
-{
-    for i in 0..size {
-        match byte_at(view, at, i) {
-            None => return false,
-            Some(_) => {}
-        }
-    }
-    true
 }
 
 /// So many bytes, at most 4,096, from the address that lies `skip` past another one. All of them can be read.

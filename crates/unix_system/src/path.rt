@@ -74,6 +74,7 @@ pub fn read_path<M: View>(view: &M, at: u32) -> Path
 pub fn byte_at<M: View>(view: &M, at: u32, i: u32) -> Option<u8>
     ensures { result ≡ (M.memory (M.content view.now)).byte (at + i) }
 {
+    view.laws();
     match at.checked_add(i) {
         Some(place) => view.byte(place),
         None => None,

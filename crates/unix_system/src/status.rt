@@ -9,9 +9,9 @@ ghost use Rattle.unix_definition.specs.Asked.{words_in_order};
 ghost use Rattle.unix_system.specs.Serving.{Gives};
 
 use crate::errors::{BAD_ADDRESS, BAD_DESCRIPTOR};
-use crate::guest::{has_room, put_bytes};
+use crate::guest::put_bytes;
 use crate::piece::Piece;
-use nv_events::View;
+use nv_events::{View, has_room};
 use nv_words::Order;
 use unix_definition::{Opened, Target};
 use unix_files::{BLOCK, Disk, blocks_for};

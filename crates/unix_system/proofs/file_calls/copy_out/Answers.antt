@@ -11,7 +11,7 @@ pub overflow_add-place : goal.overflow_add-place
 overflow_add-place g c =
     let content = g.M.View.content c.args.view.now in
     let m = g.M.View.memory content in
-    let b = below_end m (g.met.M.View.written_is_readable content) (g.met.M.View.ends content) (c.args.place + c.loop-i.i) (writable_in m c.args.place c.args.count c.loop-i.i c.requires.room (omega arith)) in
+    let b = below_end m (c.laws.ensures.written_is_readable content) (c.laws.ensures.ends content) (c.args.place + c.loop-i.i) (writable_in m c.args.place c.args.count c.loop-i.i c.requires.room (omega arith)) in
     omega (arith, b)
 
 pub loop-i-preserved : goal.loop-i-preserved
@@ -31,7 +31,7 @@ loop-i-preserved g c =
     let is : c.byte-b.result ≡ get_or rest c.loop-i.i 0 = c.byte-b.ensures.value ∙ (ap (λ d. get_or (bytes_at d c.args.n) (c.args.from + c.loop-i.i) 0) c.loop-i.invariant.same ∙ sym (get_or-drop c.args.from file c.loop-i.i 0)) in
     let taken : length (take c.loop-i.i rest) ≡ c.loop-i.i = length-take-le c.loop-i.i rest (omega arith) in
     record {
-      same_room = λ x. ap (λ k. (g.M.View.memory k).writable x) after ∙ g.met.M.View.writable_stays before at c.byte-b.result x small room ∙ c.loop-i.invariant.same_room x;
+      same_room = λ x. ap (λ k. (g.M.View.memory k).writable x) after ∙ c.laws.ensures.writable_stays before at c.byte-b.result x small room ∙ c.loop-i.invariant.same_room x;
       so_far = after
           ∙ (ap (λ k. put_at k at c.byte-b.result) c.loop-i.invariant.so_far
           ∙ (ap (λ b. put_at (patched put_at start c.args.place (take c.loop-i.i rest)) at b) is

@@ -8,14 +8,14 @@ pub overflow_cast-i : goal.overflow_cast-i
 overflow_cast-i g c =
     let content = g.M.View.content c.args.view.now in
     let m = g.M.View.memory content in
-    let b = below_end m (g.met.M.View.written_is_readable content) (g.met.M.View.ends content) (c.args.place + c.loop-i.i) (writable_in m c.args.place (length c.args.bytes.now) c.loop-i.i c.requires (omega arith)) in
+    let b = below_end m (c.laws.ensures.written_is_readable content) (c.laws.ensures.ends content) (c.args.place + c.loop-i.i) (writable_in m c.args.place (length c.args.bytes.now) c.loop-i.i c.requires (omega arith)) in
     omega (arith, b)
 
 pub overflow_add-place : goal.overflow_add-place
 overflow_add-place g c =
     let content = g.M.View.content c.args.view.now in
     let m = g.M.View.memory content in
-    let b = below_end m (g.met.M.View.written_is_readable content) (g.met.M.View.ends content) (c.args.place + c.loop-i.i) (writable_in m c.args.place (length c.args.bytes.now) c.loop-i.i c.requires (omega arith)) in
+    let b = below_end m (c.laws.ensures.written_is_readable content) (c.laws.ensures.ends content) (c.args.place + c.loop-i.i) (writable_in m c.args.place (length c.args.bytes.now) c.loop-i.i c.requires (omega arith)) in
     omega (arith, b)
 
 pub loop-i-preserved : goal.loop-i-preserved
@@ -32,7 +32,7 @@ loop-i-preserved g c =
     let small : b < 256 = omega (arith, c.type_inv.bytes c.loop-i.i) in
     let next : at + 1 ≡ c.args.place + (c.loop-i.i + 1) = omega arith in
     record {
-      same_room = λ x. ap (λ k. (g.M.View.memory k).writable x) after ∙ g.met.M.View.writable_stays before at b x small room ∙ c.loop-i.invariant.same_room x;
+      same_room = λ x. ap (λ k. (g.M.View.memory k).writable x) after ∙ c.laws.ensures.writable_stays before at b x small room ∙ c.loop-i.invariant.same_room x;
       so_far = ap (λ k. patched put_at k (c.args.place + (c.loop-i.i + 1)) (drop (c.loop-i.i + 1) patch)) after
           ∙ ap (λ a. patched put_at (put_at before at b) a (drop (c.loop-i.i + 1) patch)) (sym next)
           ∙ sym (at_drop_more (patched put_at before at) patch c.loop-i.i 0 c.loop-i-test.true)
