@@ -20,7 +20,8 @@ use Rattle.unix_definition.specs.Opened.{numbered_at, node_of}
 use Rattle.unix_definition.specs.Errors.{bad_descriptor, bad_address, invalid}
 use Rattle.unix_definition.specs.Calls.{begin, fstat, file_words, argument_block}
 use Rattle.unix_system.specs.Serving.{Gives}
-use Rattle.unix_calls.specs.Held.{Held, system_of, with_parts, with_tables_held, with_input_held}
+use Rattle.unix_calls.specs.Held.{Held, system_of, with_parts}
+use Rattle.unix_calls.proofs.HeldForms.{with_tables_held, with_input_held}
 use Rattle.unix_calls.specs.Drawing.{known}
 use Rattle.unix_calls.specs.Serving.{AsFault, OneFails, Parts, Serves, parts, written_by}
 use Rattle.unix_calls.specs.Reading.{Inputs, inputs, Reads, ReadsPart, ReadGives, Outputs, outputs, Writes, WritesPart, WriteGives}

@@ -13,3 +13,5 @@ pub mod FrameLemmas
 pub mod LeadsLemmas
 pub mod JoinedRuns
 pub mod PlayLemmas
+pub mod Telling
+pub mod HeldForms

@@ -49,24 +49,6 @@ with_parts s files opened heap moment = record s {
 abbrev pub limited : Held → ℕ → Held
 limited held most = record held { most = most }
 
-abbrev pub with_tables_held : Held → GuestFiles → Opened → Heap → Held
-with_tables_held held files opened heap = record held {
-  files = files;
-  opened = opened;
-  heap = heap;
-}
-
 -- only the arguments differ
 abbrev pub with_args_held : Held → List (List ℕ) → Held
 with_args_held held args = record held { args = args }
-
--- the program has begun, with this heap and this order of bytes
-abbrev pub with_begun_held : Held → Order → Heap → Held
-with_begun_held held order heap = record held { heap = heap; order = order }
-
-abbrev pub with_input_held : Held → GuestFiles → Opened → List ℕ → Held
-with_input_held held files opened ahead = record held {
-  files = files;
-  opened = opened;
-  ahead = ahead;
-}

@@ -8,6 +8,5 @@ pub mod Starting
 pub mod Beginning
 pub mod Access
 pub mod Reading
-pub mod Telling
 pub mod Playing
 pub mod Failing

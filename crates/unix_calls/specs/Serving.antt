@@ -11,7 +11,6 @@ use Rattle.run_definition.specs.Memory.{patched}
 use Rattle.run_definition.specs.Question.{Room}
 use Rattle.run_definition.specs.Answer.{Answer, fits_room, room_place}
 use Rattle.unix_definition.specs.System.{System, Console}
-use Rattle.unix_definition.specs.Asked.{value_only}
 use Rattle.unix_calls.specs.Held.{Held, system_of, with_ahead}
 use Rattle.unix_calls.specs.Drawing.{AreBytes, known}
 use Rattle.unix_calls.specs.Reading.{ReadsUpTo}
@@ -33,9 +32,6 @@ told_by held (Some rest) None error_output = None
 told_by held (Some rest) (Some output) None = None
 told_by held (Some rest) (Some output) (Some error_output) =
     Some (system_of held rest output error_output)
-
-abbrev pub told : Parts → Option System
-told p = told_by p.unix p.input.told p.out.told p.err.told
 
 -- A call was answered and no part failed: the source lost `got`, the sinks gained what the
 -- definition writes, and the answer and what is held then are the definition's, whatever was
@@ -101,21 +97,6 @@ Serves put_at does number room p r c d (Ok value) = (patch : List ℕ)
 Serves put_at does number room p r c d (Err fault) = Fell fault does number room p r
     × ((patch : List ℕ) × IsTrue (fits_room patch room)
     × (d ≡ patched put_at c (room_place room) patch))
-
--- A call that reads no input, writes nothing and puts no bytes into memory.
-abbrev pub IsQuiet : (System → Answer × System) → Held → Held → ℤ → Type 0
-IsQuiet does old new value = (rest output error_output : List ℕ)
-    → does (system_of old rest output error_output)
-    ≡ (value_only value, system_of new rest output error_output)
-
--- A call that reads no input and writes nothing.
-pub record Puts {C : Type 0} (put_at : C → ℕ → ℕ → C) (does : System → Answer × System)
-    (room : Room) (old new : Held) (c d : C) (value : ℤ) : Type 0 where
-  pub patch : List ℕ
-  pub fits : IsTrue (fits_room patch room)
-  pub after : d ≡ patched put_at c (room_place room) patch
-  pub is : (rest output error_output : List ℕ) → does (system_of old rest output error_output)
-      ≡ (record { value = value; patch = patch }, system_of new rest output error_output)
 
 -- an answer as it was, and a failure as this fault
 abbrev pub AsFault : IoFault → Result ℤ Failed → Result ℤ IoFault → Type 0

@@ -5,9 +5,8 @@ ghost use Rattle.run_definition.specs.Question.{room_at, asked_text_at};
 ghost use Rattle.run_definition.specs.declared.text_place.TextPlace.TheVariants.{Counted};
 ghost use Rattle.unix_calls.specs.Access.{MayRead, MayWrite};
 
-use nv_events::{Call, View};
+use nv_events::{Call, View, has_room, is_readable};
 use unix_system::errors::{BAD_ADDRESS, BAD_DESCRIPTOR, INVALID};
-use unix_system::guest::{has_room, is_readable};
 use unix_system::{Description, Opened};
 
 /// The numbers of bytes from here on are refused.

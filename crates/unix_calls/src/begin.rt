@@ -10,11 +10,11 @@ ghost use Rattle.unix_system.specs.Serving.{Gives};
 ghost use Rattle.unix_calls.specs.Beginning.{with_args, PutsBlock, block_of};
 
 use crate::args::Args;
-use nv_events::{Call, View};
+use nv_events::{Call, View, has_room};
 use nv_words::Order;
 use unix_system::Heap;
 use unix_system::errors::{BAD_ADDRESS, INVALID};
-use unix_system::guest::{has_room, put_bytes};
+use unix_system::guest::put_bytes;
 
 /// The highest address of a program, and the most bytes of its heap.
 const HIGHEST: u64 = 0x7FFF_FFFF;
@@ -82,6 +82,7 @@ fn put_block<M: View>(args: &Args, order: Order, place: u32, size: u32, view: &m
     ensures { PutsBlock M.put_at (M.content view.old) (M.content view.new) place
         (block_of order args.now place) }
 {
+    view.laws();
     let block = args.block(order, place);
     put_bytes(view, place, block.as_slice());
 }

@@ -37,6 +37,7 @@ pub fn read_line<M: View, S: Source>(
         place count ahead.old ahead.new (S.rest source.old) (S.rest source.new)) }
     ensures count { CountsFailure (is_err result) (S.faults source.old) (S.faults source.new) }
 {
+    view.laws();
     for i in 0..count {
         match ahead.next(source)? {
             None => return Ok(i),
@@ -59,6 +60,7 @@ fn put_byte<M: View>(view: &mut M, at: u32, b: u8)
     ensures same_room { (x : ℕ) → (M.memory (M.content view.new)).writable x
         ≡ (M.memory (M.content view.old)).writable x }
 {
+    view.laws();
     view.put(at, b);
 }
 

@@ -25,7 +25,6 @@ pub struct Joined<'a, S, O, E> {
 
 impl<'a, S: Source, O: Sink, E: Sink> Server for Joined<'a, S, O, E> {
     ghost use Rattle.std.proofs.Common.{◌∙◌, refl};
-    ghost use Rattle.unix_calls.specs.Telling.{goes_as_told};
 
     ghost State = { System };
 
@@ -66,13 +65,7 @@ impl<'a, S: Source, O: Sink, E: Sink> Server for Joined<'a, S, O, E> {
         as_some(answer)
     }
 
-    ghost goes_as_told = { λ j k q a s w g.
-        goes_as_told q j.unix.now k.unix.now a s (S.rest j.source.now) (O.taken j.out.now)
-        (E.taken j.err.now) (S.rest k.source.now) (O.taken k.out.now) (E.taken k.err.now)
-        (S.faults j.source.now) (O.faults j.out.now) (E.faults j.err.now)
-        (S.faults k.source.now) (O.faults k.out.now) (E.faults k.err.now) w g };
-
-    ghost held_as_told = { λ j k q s w h. absurd h };
+    fn laws(&self) {}
 
     ghost keeps_itself = { λ j. (refl, refl, refl, refl, λ h. h) };
 

@@ -6,7 +6,7 @@ pub block-block-requires : goal.block-block-requires
 block-block-requires g c =
     let content = g.M.View.content c.args.view.now in
     let m = g.M.View.memory content in
-    let b = below_end m (g.met.M.View.written_is_readable content) (g.met.M.View.ends content) (c.args.place + 4095) (writable_in m c.args.place c.args.size 4095 c.requires.room (omega (arith, c.requires.size))) in
+    let b = below_end m (c.laws.ensures.written_is_readable content) (c.laws.ensures.ends content) (c.args.place + 4095) (writable_in m c.args.place c.args.size 4095 c.requires.room (omega (arith, c.requires.size))) in
     omega (arith, b)
 
 pub put_bytes-requires : goal.put_bytes-requires

@@ -12,7 +12,7 @@ pub overflow_add-place : goal.overflow_add-place
 overflow_add-place g c =
     let content = g.M.View.content c.args.view.now in
     let m = g.M.View.memory content in
-    let b = below_end m (g.met.M.View.written_is_readable content) (g.met.M.View.ends content) (c.args.place + c.loop-i.i) (writable_in m c.args.place c.args.count c.loop-i.i c.requires c.loop-i-test.true) in
+    let b = below_end m (c.laws.ensures.written_is_readable content) (c.laws.ensures.ends content) (c.args.place + c.loop-i.i) (writable_in m c.args.place c.args.count c.loop-i.i c.requires c.loop-i-test.true) in
     omega (arith, b)
 
 pub returns-in_err-next-clause-err : goal.returns-in_err-next-clause-err

@@ -1,7 +1,8 @@
 use Rattle.std.proofs.Common.{◌≡◌, ◌≤◌, ◌++◌, ◌∷◌, [], map, length, Some, ap, sym, ◌∙◌, arith}
 use Rattle.unix_definition.specs.Files.{free_node, with_name}
 use Rattle.unix_definition.specs.Unix.{found_file}
-use Rattle.unix_calls.specs.Held.{Held, limited, with_tables_held}
+use Rattle.unix_calls.specs.Held.{Held, limited}
+use Rattle.unix_calls.proofs.HeldForms.{with_tables_held}
 use Rattle.unix_calls.specs.Starting.{held_at_start}
 use Rattle.unix_calls.specs.contracts.unix.Unix.{the_view}
 use Rattle.unix_calls.proofs.StartLemmas.{start_files, start-more, start-some, needed-more}

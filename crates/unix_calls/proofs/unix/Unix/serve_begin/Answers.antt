@@ -3,7 +3,8 @@ use Rattle.run_definition.specs.Question.{Room, asked, room_at}
 use Rattle.unix_definition.specs.Calls.{begin}
 use Rattle.unix_system.specs.Serving.{Gives}
 use Rattle.unix_definition.specs.Unix.{unix}
-use Rattle.unix_calls.specs.Held.{Held, system_of, with_begun_held}
+use Rattle.unix_calls.specs.Held.{Held, system_of}
+use Rattle.unix_calls.proofs.HeldForms.{with_begun_held}
 use Rattle.unix_calls.specs.Serving.{parts, Serves}
 use Rattle.unix_calls.specs.contracts.unix.Unix.{the_view}
 use Rattle.unix_calls.proofs.CallLemmas.{is-begin, room-of-0, signed-back}

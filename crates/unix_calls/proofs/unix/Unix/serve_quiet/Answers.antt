@@ -1,7 +1,8 @@
 use Rattle.std.proofs.Common.{ℤ, Ok, subst}
 use Rattle.run_definition.specs.Question.{asked}
 use Rattle.unix_definition.specs.Unix.{unix}
-use Rattle.unix_calls.specs.Held.{Held, with_tables_held}
+use Rattle.unix_calls.specs.Held.{Held}
+use Rattle.unix_calls.proofs.HeldForms.{with_tables_held}
 use Rattle.unix_calls.specs.Serving.{parts, Serves}
 use Rattle.unix_calls.specs.contracts.unix.Unix.{the_view}
 use Rattle.unix_calls.proofs.CallLemmas.{signed-back}
