@@ -9,7 +9,7 @@ use Rattle.constant_pool.specs.declared.form.Form.{Form}
 use Rattle.class_definition.specs.NameGrammar.{is_member_name, is_class_file_name, is_array_name, is_field_descriptor, is_method_descriptor}
 use Rattle.class_definition.specs.PoolEntries.{utf8_of}
 use Rattle.class_definition.specs.PoolChecks.{entry_at, text_at, text_fault, pair_fault}
-use Rattle.constant_pool.specs.Forms.{form_of, form_at, form_fault, least_kind}
+use Rattle.constant_pool.specs.Forms.{form_of, form_of_text, form_at, fault_unless, least_kind}
 
 -- ---- the form in a slot is that of the entry there
 
@@ -25,41 +25,28 @@ form_at-map pool n =
     elim (n == 0) as (λ v. (if v then None else option_and_then (λ form. form) (slice_get (map form_of pool) (n - 1)))
     ≡ option_and_then form_of (if v then None else slice_get pool (n - 1))) [ true ↦ refl | false ↦ in_place pool (n - 1) ]
 
--- ---- what is wrong with a name
+form_there : (o : Option Entry) → option_and_then form_of o ≡ option_map form_of_text (option_and_then utf8_of o)
+form_there None = refl
+form_there (Some (Utf8 x)) = refl
+form_there (Some (Integer x)) = refl
+form_there (Some (Long x)) = refl
+form_there (Some LongRest) = refl
+form_there (Some (ClassName x)) = refl
+form_there (Some (Text x)) = refl
+form_there (Some (FieldRef x y)) = refl
+form_there (Some (MethodRef x y)) = refl
+form_there (Some (NameAnd x y)) = refl
 
-class_names : (o : Option Entry) → form_fault (λ f. f.class_name) (option_and_then form_of o)
-    ≡ text_fault (λ cs. is_class_file_name cs || is_array_name cs) (option_and_then utf8_of o)
-class_names None = refl
-class_names (Some (Utf8 x)) = refl
-class_names (Some (Integer x)) = refl
-class_names (Some (Long x)) = refl
-class_names (Some LongRest) = refl
-class_names (Some (ClassName x)) = refl
-class_names (Some (Text x)) = refl
-class_names (Some (FieldRef x y)) = refl
-class_names (Some (MethodRef x y)) = refl
-class_names (Some (NameAnd x y)) = refl
+pub form_is : (pool : List Entry) (forms : List (Option Form)) (n : ℕ) → forms ≡ map form_of pool
+    → form_at forms n ≡ option_map form_of_text (text_at pool n)
+form_is pool forms n same = rw same (rw (form_at-map pool n) (form_there (entry_at pool n)))
 
-member_names : (o : Option Entry) → form_fault (λ f. f.member_name) (option_and_then form_of o)
-    ≡ text_fault is_member_name (option_and_then utf8_of o)
-member_names None = refl
-member_names (Some (Utf8 x)) = refl
-member_names (Some (Integer x)) = refl
-member_names (Some (Long x)) = refl
-member_names (Some LongRest) = refl
-member_names (Some (ClassName x)) = refl
-member_names (Some (Text x)) = refl
-member_names (Some (FieldRef x y)) = refl
-member_names (Some (MethodRef x y)) = refl
-member_names (Some (NameAnd x y)) = refl
+-- ---- what is wrong with a text
 
-pub class_name_fault_is : (pool : List Entry) (forms : List (Option Form)) (n : ℕ) → forms ≡ map form_of pool
-    → form_fault (λ f. f.class_name) (form_at forms n) ≡ text_fault (λ cs. is_class_file_name cs || is_array_name cs) (text_at pool n)
-class_name_fault_is pool forms n same = rw same (rw (form_at-map pool n) (class_names (entry_at pool n)))
-
-pub member_name_fault_is : (pool : List Entry) (forms : List (Option Form)) (n : ℕ) → forms ≡ map form_of pool
-    → form_fault (λ f. f.member_name) (form_at forms n) ≡ text_fault is_member_name (text_at pool n)
-member_name_fault_is pool forms n same = rw same (rw (form_at-map pool n) (member_names (entry_at pool n)))
+pub fault_is : (test : Form → Bool) (o : Option (List ℕ)) → fault_unless (option_map test (option_map form_of_text o))
+    ≡ text_fault (λ cs. test (form_of_text cs)) o
+fault_is test None = refl
+fault_is test (Some cs) = refl
 
 -- ---- a name and a descriptor
 

@@ -6,8 +6,7 @@ ghost use Rattle.class_definition.specs.PoolEntries.{class_entry_name, name_entr
 ghost use Rattle.class_definition.specs.PoolChecks as checks;
 ghost use Rattle.constant_pool.specs.Forms.{least_kind};
 
-use crate::form::utf8_unless;
-use crate::names::{is_field_descriptor, is_method_descriptor};
+use crate::form::{fault_unless, utf8_unless};
 use crate::slots::Slots;
 use class_definition::Entry;
 use class_format::ClassFault;
@@ -44,20 +43,17 @@ fn pair_fault(pool: &Slots, name: u16, descriptor: u16) -> Option<u32>
 {
     least_kind(
         pool.member_name_fault(name),
-        descriptor_fault(pool.text(descriptor)),
+        descriptor_fault(pool, descriptor),
     )
 }
 
-fn descriptor_fault(text: Option<&[u16]>) -> Option<u32>
+#[tactic(auto, using(crate::proofs::FormLemmas::fault_is))]
+fn descriptor_fault(pool: &Slots, slot: u16) -> Option<u32>
     ensures { result ≡ checks.text_fault (λ cs. profile.is_field_descriptor cs
-        || profile.is_method_descriptor cs) (option_map (λ x. x.now) text.entry) }
+        || profile.is_method_descriptor cs) (checks.text_at pool.now slot) }
 {
-    match text {
-        None => Some(ClassFault::INDEX),
-        Some(descriptor) => utf8_unless(
-            is_field_descriptor(descriptor) || is_method_descriptor(descriptor),
-        ),
-    }
+    let form = pool.form(slot);
+    fault_unless(form.map(|form| form.field_descriptor || form.method_descriptor))
 }
 
 fn least_kind(name: Option<u32>, descriptor: Option<u32>) -> Option<u32>
@@ -76,9 +72,9 @@ fn field_fault(pool: &Slots, class: u16, name: u16) -> Option<u32>
         (option_and_then name_entry (checks.entry_at pool.now name)) }
 {
     match (class_slot(pool, class), descriptor_slot(pool, name)) {
-        (Some(_), Some(descriptor)) => match pool.text(descriptor) {
+        (Some(_), Some(descriptor)) => match pool.form(descriptor) {
             None => None,
-            Some(text) => utf8_unless(is_field_descriptor(text)),
+            Some(form) => utf8_unless(form.field_descriptor),
         },
         _ => Some(ClassFault::INDEX),
     }
@@ -90,9 +86,9 @@ fn method_fault(pool: &Slots, class: u16, name: u16) -> Option<u32>
         (option_and_then name_entry (checks.entry_at pool.now name)) }
 {
     match (class_slot(pool, class), descriptor_slot(pool, name)) {
-        (Some(_), Some(descriptor)) => match pool.text(descriptor) {
+        (Some(_), Some(descriptor)) => match pool.form(descriptor) {
             None => None,
-            Some(text) => utf8_unless(is_method_descriptor(text)),
+            Some(form) => utf8_unless(form.method_descriptor),
         },
         _ => Some(ClassFault::INDEX),
     }

@@ -1,8 +1,11 @@
-ghost use Rattle.std.specs.Prelude.{◌≡◌, IfOk, if◌then◌else◌, map, None, Some};
-ghost use Rattle.constant_pool.specs.Forms.{form_of, form_at, form_fault};
+ghost use Rattle.std.specs.Prelude.{◌≡◌, IfOk, if◌then◌else◌, map, None, Some, option_map};
+ghost use Rattle.constant_pool.specs.Forms.{form_of, form_of_text, form_at, fault_unless};
 
 use crate::error::NoMemory;
-use crate::names::{is_array_name, is_class_name, is_member_name};
+use crate::names::{
+    is_array_name, is_class_name, is_field_descriptor, is_member_name, is_method_descriptor,
+    is_own_descriptor,
+};
 use class_definition::Entry;
 use class_format::ClassFault;
 use std::alloc::Global;
@@ -14,6 +17,12 @@ pub struct Form {
     pub class_name: bool,
     /// The name of a field or method.
     pub member_name: bool,
+    /// The descriptor of a field.
+    pub field_descriptor: bool,
+    /// The descriptor of a method that a class names.
+    pub method_descriptor: bool,
+    /// The descriptor of a method of the class itself.
+    pub own_descriptor: bool,
 }
 
 /// What the text of each entry can be; None for an entry that is no text.
@@ -31,11 +40,20 @@ fn form_of(entry: &Entry) -> Option<Form>
     ensures { result ≡ form_of entry.now }
 {
     match entry {
-        Entry::Utf8(text) => Some(Form {
-            class_name: is_class_name(text.as_slice()) || is_array_name(text.as_slice()),
-            member_name: is_member_name(text.as_slice()),
-        }),
+        Entry::Utf8(text) => Some(form_of_text(text.as_slice())),
         _ => None,
+    }
+}
+
+fn form_of_text(text: &[u16]) -> Form
+    ensures { result ≡ form_of_text text.now }
+{
+    Form {
+        class_name: is_class_name(text) || is_array_name(text),
+        member_name: is_member_name(text),
+        field_descriptor: is_field_descriptor(text),
+        method_descriptor: is_method_descriptor(text),
+        own_descriptor: is_own_descriptor(text),
     }
 }
 
@@ -52,23 +70,13 @@ pub fn form_at(forms: &[Option<Form>], slot: u16) -> Option<Form>
     }
 }
 
-/// The kind of what is wrong with a text that is to be the name of a class or of a type of arrays.
-pub fn class_name_fault(form: Option<Form>) -> Option<u32>
-    ensures { result ≡ form_fault (λ f. f.class_name) form }
+/// The kind of what is wrong with a text, given whether it passes; None where no text is there.
+pub fn fault_unless(passes: Option<bool>) -> Option<u32>
+    ensures { result ≡ fault_unless passes }
 {
-    match form {
+    match passes {
         None => Some(ClassFault::INDEX),
-        Some(form) => utf8_unless(form.class_name),
-    }
-}
-
-/// The kind of what is wrong with a text that is to be the name of a field or method.
-pub fn member_name_fault(form: Option<Form>) -> Option<u32>
-    ensures { result ≡ form_fault (λ f. f.member_name) form }
-{
-    match form {
-        None => Some(ClassFault::INDEX),
-        Some(form) => utf8_unless(form.member_name),
+        Some(passes) => utf8_unless(passes),
     }
 }
 

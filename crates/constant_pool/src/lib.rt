@@ -20,7 +20,7 @@ pub use error::{NoMemory, PoolError, ReadError};
 pub use lookups::{class_name_of, entry_of, text_of};
 pub use names::{
     after_field, is_array_name, is_class_name, is_field_descriptor, is_member_name,
-    is_method_descriptor,
+    is_method_descriptor, is_own_descriptor,
 };
 pub use pool::Pool;
 pub use pool_reading::{entries_of, read_pool};

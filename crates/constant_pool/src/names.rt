@@ -3,6 +3,7 @@ ghost use Rattle.std.specs.Prelude.{◌≡◌, ◌==◌, if◌then◌else◌, co
 ghost use Rattle.std.specs.Option.{option_and_then};
 ghost use Rattle.std.specs.List.{list_all};
 ghost use Rattle.class_definition.specs.NameGrammar as profile;
+ghost use Rattle.class_definition.specs.Named as format;
 
 const ARRAY: [u16; 2] = [91, 73];
 
@@ -11,6 +12,9 @@ const PAGES: [u16; 3] = [91, 91, 73];
 const STRING: [u16; 18] = [
     76, 106, 97, 118, 97, 47, 108, 97, 110, 103, 47, 83, 116, 114, 105, 110, 103, 59,
 ];
+
+/// The descriptor of `String.charAt`, `(I)C`.
+const CHARACTER_AT: [u16; 4] = [40, 73, 41, 67];
 
 /// Whether a text can be the name of a field or method: one or more letters, digits, `_` and `$`.
 pub fn is_member_name(text: &[u16]) -> bool
@@ -82,21 +86,28 @@ pub fn is_field_descriptor(text: &[u16]) -> bool
     }
 }
 
-/// Whether a text is the descriptor of a method of a class here: `(`, at most 255 field descriptors, `)`, and `I` or `V`.
+/// Whether a text is the descriptor of a method that a class names: `(`, at most 255 field descriptors, `)`, and `I` or `V`;
+/// or `(I)C`.
+pub fn is_method_descriptor(text: &[u16]) -> bool
+    ensures { result ≡ profile.is_method_descriptor text.now }
+{
+    gives_int_or_nothing(text) || text == CHARACTER_AT.as_slice()
+}
+
+/// Whether a text is the descriptor of a method of a class here: such a one, but for `(I)C`.
 pub fn is_own_descriptor(text: &[u16]) -> bool
+    ensures { result ≡ format.is_own_descriptor text.now }
+{
+    is_method_descriptor(text) && text != CHARACTER_AT.as_slice()
+}
+
+fn gives_int_or_nothing(text: &[u16]) -> bool
     ensures { result ≡ profile.gives_int_or_nothing text.now }
 {
     match after_descriptors(text) {
         None => false,
         Some(rest) => rest == [73].as_slice() || rest == [86].as_slice(),
     }
-}
-
-/// Whether a text is the descriptor of a method that a class names: such a one, or `(I)C`.
-pub fn is_method_descriptor(text: &[u16]) -> bool
-    ensures { result ≡ profile.is_method_descriptor text.now }
-{
-    is_own_descriptor(text) || text == [40, 73, 41, 67].as_slice()
 }
 
 // What follows the parameters of a method descriptor.

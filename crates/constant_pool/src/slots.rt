@@ -1,9 +1,11 @@
 ghost use Rattle.std.specs.Prelude.{◌≡◌, ◌||◌, IfOk, option_map};
 ghost use Rattle.class_definition.specs.NameGrammar as profile;
 ghost use Rattle.class_definition.specs.PoolChecks as checks;
+ghost use Rattle.class_definition.specs.Named.{is_own_descriptor};
+ghost use Rattle.constant_pool.specs.Forms.{form_of_text};
 
 use crate::error::NoMemory;
-use crate::form::{Form, class_name_fault, form_at, forms_of, member_name_fault};
+use crate::form::{Form, fault_unless, form_at, forms_of};
 use crate::lookups::{class_name_of, entry_of, text_of};
 use class_definition::Entry;
 use std::alloc::Global;
@@ -74,20 +76,45 @@ impl Slots {
         class_name_of(&self.entries, slot)
     }
 
+    /// What the text in a slot can be; None exactly if no text is there.
+    #[tactic(auto, using(crate::proofs::FormLemmas::form_is))]
+    pub fn form(&self, slot: u16) -> Option<Form>
+        ensures { result ≡ option_map form_of_text (checks.text_at self.now slot) }
+    {
+        form_at(&self.forms, slot)
+    }
+
     /// The kind of what is wrong with a slot that is to hold the name of a class or of a type of arrays.
-    #[tactic(auto, using(crate::proofs::FormLemmas::class_name_fault_is))]
+    #[tactic(auto, using(crate::proofs::FormLemmas::fault_is))]
     pub fn class_name_fault(&self, slot: u16) -> Option<u32>
         ensures { result ≡ checks.text_fault (λ cs. profile.is_class_file_name cs
             || profile.is_array_name cs) (checks.text_at self.now slot) }
     {
-        class_name_fault(form_at(&self.forms, slot))
+        fault_unless(self.form(slot).map(|form| form.class_name))
     }
 
     /// The kind of what is wrong with a slot that is to hold the name of a field or method.
-    #[tactic(auto, using(crate::proofs::FormLemmas::member_name_fault_is))]
+    #[tactic(auto, using(crate::proofs::FormLemmas::fault_is))]
     pub fn member_name_fault(&self, slot: u16) -> Option<u32>
         ensures { result ≡ checks.text_fault profile.is_member_name (checks.text_at self.now slot) }
     {
-        member_name_fault(form_at(&self.forms, slot))
+        fault_unless(self.form(slot).map(|form| form.member_name))
+    }
+
+    /// The kind of what is wrong with a slot that is to hold the descriptor of a field.
+    #[tactic(auto, using(crate::proofs::FormLemmas::fault_is))]
+    pub fn field_descriptor_fault(&self, slot: u16) -> Option<u32>
+        ensures { result
+            ≡ checks.text_fault profile.is_field_descriptor (checks.text_at self.now slot) }
+    {
+        fault_unless(self.form(slot).map(|form| form.field_descriptor))
+    }
+
+    /// The kind of what is wrong with a slot that is to hold the descriptor of a method of the class itself.
+    #[tactic(auto, using(crate::proofs::FormLemmas::fault_is))]
+    pub fn own_descriptor_fault(&self, slot: u16) -> Option<u32>
+        ensures { result ≡ checks.text_fault is_own_descriptor (checks.text_at self.now slot) }
+    {
+        fault_unless(self.form(slot).map(|form| form.own_descriptor))
     }
 }
