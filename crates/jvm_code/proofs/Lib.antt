@@ -8,3 +8,4 @@ pub mod DecodeLemmas
 pub mod WritingLemmas
 pub mod SizeLemmas
 pub mod ReadBack
+pub mod OrderUnique
