@@ -5,10 +5,7 @@ ghost use Rattle.class_definition.specs.PoolChecks.{text_fault};
 ghost use Rattle.class_definition.specs.Named as format;
 
 use class_format::ClassFault;
-use constant_pool::{is_class_name, is_field_descriptor, is_method_descriptor};
-
-/// The descriptor of `String.charAt`, `(I)C`.
-const CHARACTER_AT: [u16; 4] = [40, 73, 41, 67];
+use constant_pool::is_class_name;
 
 /// `Code`.
 const CODE: [u16; 4] = [67, 111, 100, 101];
@@ -17,32 +14,6 @@ const CODE: [u16; 4] = [67, 111, 100, 101];
 const OBJECT: [u16; 16] = [
     106, 97, 118, 97, 47, 108, 97, 110, 103, 47, 79, 98, 106, 101, 99, 116,
 ];
-
-/// Of a field's descriptor.
-pub fn field_descriptor_fault(text: Option<&[u16]>) -> Option<u32>
-    ensures { result ≡ text_fault profile.is_field_descriptor (option_map (λ x. x.now) text.entry) }
-{
-    match text {
-        None => Some(ClassFault::INDEX),
-        Some(descriptor) => utf8_unless(is_field_descriptor(descriptor)),
-    }
-}
-
-/// Of the descriptor of a method of the class itself.
-pub fn own_descriptor_fault(text: Option<&[u16]>) -> Option<u32>
-    ensures { result ≡ text_fault format.is_own_descriptor (option_map (λ x. x.now) text.entry) }
-{
-    match text {
-        None => Some(ClassFault::INDEX),
-        Some(descriptor) => utf8_unless(is_own_descriptor(descriptor)),
-    }
-}
-
-fn is_own_descriptor(descriptor: &[u16]) -> bool
-    ensures { result ≡ format.is_own_descriptor descriptor.now }
-{
-    is_method_descriptor(descriptor) && descriptor != CHARACTER_AT.as_slice()
-}
 
 /// Of the name of the class itself.
 pub fn this_fault(name: Option<&[u16]>) -> Option<u32>

@@ -5,9 +5,7 @@ ghost use Rattle.class_definition.specs.Format.{settled};
 ghost use Rattle.class_definition.specs.NameGrammar as profile;
 ghost use Rattle.class_definition.specs.Named as format;
 
-use crate::faults::{
-    code_name_fault, field_descriptor_fault, is_object, own_descriptor_fault, this_fault,
-};
+use crate::faults::{code_name_fault, is_object, this_fault};
 use class_format::{ClassFault, Failure, half_of, missed};
 use constant_pool::Slots;
 
@@ -26,7 +24,7 @@ pub fn field_descriptor_of<'a>(pool: &Slots, bytes: &'a [u8]) -> Result<(u16, &'
         ((format.text_slot pool.now profile.is_field_descriptor).read bytes.now) }
 {
     let (slot, rest) = half_of(ClassFault::CUT, bytes)?;
-    settled_slot(slot, rest, bytes, field_descriptor_fault(pool.text(slot)))
+    settled_slot(slot, rest, bytes, pool.field_descriptor_fault(slot))
 }
 
 /// The slot of a method's descriptor.
@@ -35,7 +33,7 @@ pub fn own_descriptor_of<'a>(pool: &Slots, bytes: &'a [u8]) -> Result<(u16, &'a 
         ((format.text_slot pool.now format.is_own_descriptor).read bytes.now) }
 {
     let (slot, rest) = half_of(ClassFault::CUT, bytes)?;
-    settled_slot(slot, rest, bytes, own_descriptor_fault(pool.text(slot)))
+    settled_slot(slot, rest, bytes, pool.own_descriptor_fault(slot))
 }
 
 /// The slot of the name of the attribute with a method's code.
