@@ -9,7 +9,7 @@ use Rattle.jvm_code.specs.Writing as writing
 use Rattle.class_definition.specs.Sizes.{size_at}
 use Rattle.jvm_definition.specs.Program.{LaidFrom}
 use Rattle.class_definition.specs.Linking.{linked_line}
-use Rattle.jvm_link.specs.Order.{LineRises, AreInOrder}
+use Rattle.jvm_code.specs.Order.{LineRises, AreInOrder}
 use Rattle.jvm_link.proofs.RiseLaws.{op_rises}
 
 size_some : (at : ℕ) (op : Op) → 0 < size_at at op

@@ -25,7 +25,7 @@ use Rattle.class_definition.specs.Switches.{pad_of, LookupHead, lookup_head, pai
 use Rattle.class_definition.specs.Targets.{switch_keys}
 use Rattle.class_definition.specs.MemberNames.{class_name_at, Signature, same_signature, signature_at, Reference, reference_to, field_number, method_number, string_name, host_name, length_signature, char_at_signature, host_call_signature, host_fault_signature}
 use Rattle.class_definition.specs.Linking.{field_of_number, field_instruction, call_of_number, host_method, static_call, string_method, string_call, call_instruction, word_constant, long_constant, pool_instruction, local_instruction, return_instruction, linked_instruction}
-use Rattle.jvm_link.specs.Order.{KeysRise}
+use Rattle.jvm_code.specs.Order.{KeysRise}
 
 either : (b : Bool) (x y : Instruction) → KeysRise x → KeysRise y → KeysRise (cond b x y)
 either true x y a b = a

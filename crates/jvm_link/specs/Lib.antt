@@ -1,3 +1,3 @@
 pub mod Fields
 pub mod Meant
-pub mod Order
+pub mod Parameters

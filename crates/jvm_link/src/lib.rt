@@ -8,6 +8,7 @@ mod kinds;
 mod linked;
 mod linking;
 mod methods;
+mod parameters;
 mod pool_instructions;
 mod run;
 

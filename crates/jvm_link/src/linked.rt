@@ -2,7 +2,8 @@ ghost use Rattle.std.specs.Prelude.{◌≡◌, Option, None, All};
 ghost use Rattle.class_names.specs.Kept.{IsClass};
 ghost use Rattle.class_definition.specs.LinkFault.{link_fault};
 ghost use Rattle.class_definition.specs.Linking.{field_kinds, linked_methods, first_method};
-ghost use Rattle.jvm_link.specs.Order.{IsInOrder, AllInOrder-prop};
+ghost use Rattle.jvm_code.specs.Order.{IsInOrder};
+ghost use Rattle.jvm_code.proofs.OrderUnique.{AllInOrder-prop};
 
 use class_names::text_of;
 use jvm_code::Class;

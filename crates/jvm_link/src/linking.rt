@@ -6,7 +6,7 @@ ghost use Rattle.class_names.specs.Answer.{IsAnswer};
 ghost use Rattle.class_definition.specs.LinkFault.{link_fault};
 ghost use Rattle.class_names.specs.Keys.{classes_in};
 ghost use Rattle.class_definition.specs.Linking as linking;
-ghost use Rattle.jvm_link.specs.Order.{IsInOrder};
+ghost use Rattle.jvm_code.specs.Order.{IsInOrder};
 ghost use Rattle.jvm_link.specs.Meant.{IsMeant};
 
 use crate::fields::field_kinds;

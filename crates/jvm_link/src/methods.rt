@@ -5,13 +5,15 @@ ghost use Rattle.jvm_code.specs.Writing.{AreLaid};
 ghost use Rattle.class_definition.specs.Sizes.{size_at};
 ghost use Rattle.class_names.specs.Keys.{IsNumbered, classes_in};
 ghost use Rattle.class_definition.specs.Linking as linking;
-ghost use Rattle.jvm_link.specs.Order.{AreInOrder, IsInOrder};
+ghost use Rattle.jvm_code.specs.Order.{AreInOrder, IsInOrder};
+ghost use Rattle.jvm_link.specs.Parameters.{entry_parameters};
 
 use crate::instructions::linked_instruction;
-use crate::kinds::{gives_int, parameters_of};
+use crate::kinds::gives_int;
+use crate::parameters::{parameters_at, slot_parameters};
 use class_names::{Names, NoMemory, NumberedClass, text_of};
 use jvm_code::{Line, Method, decode_ops, size};
-use jvm_definition::{LinkedLine, LinkedMethod, Sequence};
+use jvm_definition::{Kind, LinkedLine, LinkedMethod, Sequence};
 use std::alloc::{AllocError, Global};
 
 /// The methods of all classes, class by class.
@@ -43,31 +45,35 @@ fn push_methods(
         number class.now.class.now) class.now.class.now.methods) }
     ensures laid { OnOk result (All IsInOrder methods.new.items) }
 {
+    let parameters = slot_parameters(alloc, class.class.pool.as_slice())?;
+    let parameters = parameters.as_slice();
     for method in class.class.methods.as_slice() {
-        let linked = linked_method(alloc, names, number, class, method)?;
+        let linked = linked_method(alloc, names, number, class, parameters, method)?;
         methods.push(linked)?;
     }
     Ok(())
 }
 
-#[tactic(auto, unfolding(class_definition::specs::Linking::linked_method))]
+// A method of a class of which the text in each slot names these parameters.
+#[tactic(auto, unfolding(class_definition::specs::Linking::linked_method), using(crate::proofs::ParameterLemmas::parameters_are))]
 fn linked_method(
     alloc: Global,
     names: &Names,
     number: u16,
     class: &NumberedClass,
+    parameters: &[Sequence<Kind>],
     method: &Method,
 ) -> Result<LinkedMethod, NoMemory>
     requires numbered { IsNumbered names.now.numbered.texts.keys class.now }
+    requires parameters { parameters.now ≡ map entry_parameters class.now.class.now.pool }
     requires sound { code_fault method.now.code ≡ None }
     ensures method { IfOk result (λ linked. linked
         ≡ linking.linked_method (classes_in names.now.numbered.classes.items)
         number class.now.class.now method.now) }
     ensures laid { IfOk result IsInOrder }
 {
-    let descriptor = text_of(class.class, method.desc);
-    let gives_int = gives_int(descriptor);
-    let parameters = parameters_of(alloc, descriptor)?;
+    let gives_int = gives_int(text_of(class.class, method.desc));
+    let parameters = parameters_at(alloc, parameters, method.desc)?;
     let code = lines_of(alloc, method.code.as_slice())?;
     let lines = linked_lines(alloc, names, number, class, gives_int, code)?;
     Ok(LinkedMethod {

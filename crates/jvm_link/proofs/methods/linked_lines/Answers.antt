@@ -8,7 +8,7 @@ use Rattle.class_names.specs.Keys.{classes_in}
 use Rattle.class_definition.specs.Linking.{linked_line}
 use Rattle.jvm_link.proofs.MethodLemmas.{laid_first, map_begins, map_goes, map_ends}
 use Rattle.jvm_definition.specs.declared.linked_line.LinkedLine.{LinkedLine}
-use Rattle.jvm_link.specs.Order.{AreInOrder}
+use Rattle.jvm_code.specs.Order.{AreInOrder}
 use Rattle.jvm_link.proofs.LaidLemmas.{lines_in_order}
 use Rattle.jvm_link.proofs.methods.linked_lines.Goals as goal
 

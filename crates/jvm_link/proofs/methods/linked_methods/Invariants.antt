@@ -1,7 +1,7 @@
 use Rattle.std.proofs.Common.{◌≡◌, ◌++◌, drop}
 use Rattle.std.specs.List.{All}
 use Rattle.class_definition.specs.Linking.{methods_from, linked_methods}
-use Rattle.jvm_link.specs.Order.{IsInOrder}
+use Rattle.jvm_code.specs.Order.{IsInOrder}
 use Rattle.class_names.specs.Keys.{classes_in}
 use Rattle.jvm_link.proofs.methods.linked_methods.Given as goal
 

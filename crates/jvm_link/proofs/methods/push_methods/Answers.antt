@@ -2,7 +2,7 @@ use Rattle.std.proofs.Common.{ℕ, zero, suc, ◌<◌, List, [], ◌∷◌, get_
 use Rattle.std.specs.List.{All}
 use Rattle.std.proofs.lemmas.List.Elements.{All-append}
 use Rattle.jvm_definition.specs.declared.linked_method.LinkedMethod.{LinkedMethod}
-use Rattle.jvm_link.specs.Order.{IsInOrder}
+use Rattle.jvm_code.specs.Order.{IsInOrder}
 use Rattle.std.proofs.lemmas.Grind.{common_steps}
 use Rattle.jvm_link.proofs.MethodLemmas.{sound_code}
 use Rattle.jvm_link.proofs.methods.push_methods.Goals as goal
