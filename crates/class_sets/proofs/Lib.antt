@@ -1,5 +1,6 @@
 pub mod WaitingLemmas
 pub mod QueueLemmas
+pub mod AskedLemmas
 pub mod EntryLemmas
 pub mod SetLemmas
 pub mod FoundLemmas

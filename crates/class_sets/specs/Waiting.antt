@@ -1,8 +1,11 @@
 -- Names that were asked for and that wait, each once.
-use Rattle.std.specs.Prelude.{◌≡◌, ℕ, true, if◌then◌else◌, List, [], ◌∷◌, ◌++◌, map, take, drop, String, string_bytes, Vec, Option, option_map}
+use Rattle.std.specs.Prelude.{◌≡◌, ℕ, nat_eq, true, if◌then◌else◌, List, [], ◌∷◌, ◌++◌, map, take, drop, String, string_bytes, Vec, Option, option_map}
+use Rattle.std.specs.List.{list_any}
 use Rattle.std.specs.declared.alloc.Global.{Global}
 use Rattle.nv_outside.specs.Files.{AgreeWith, Files, SameFiles}
-use Rattle.class_sets.specs.ClassSets.{file_of, is_among, Found, next}
+use Rattle.class_definition.specs.declared.entry.Entry.{Entry}
+use Rattle.class_definition.specs.declared.entry.Entry.TheVariants.{ClassName}
+use Rattle.class_sets.specs.ClassSets.{asked_in, file_of, is_among, Found, next}
 
 -- those of names that are none of some, nor of those before them
 abbrev pub fresh : List (List ℕ) → List (List ℕ) → List (List ℕ)
@@ -35,6 +38,11 @@ IsOnce q = fresh q.asked q.waiting ≡ q.waiting
 -- a queue gives a file, and is another then
 abbrev pub file_found : Queue → Vec ℕ Global → Found
 file_found q bytes = record { bytes = bytes.items; asked = q.asked; waiting = q.waiting }
+
+-- what classes named by the texts in these slots ask for is there already
+abbrev pub AreAsked : List Entry → List ℕ → Queue → Type 0
+AreAsked pool slots q = (slot : ℕ) → list_any (nat_eq slot) slots ≡ true
+    → fresh (q.asked ++ q.waiting) (asked_in pool (ClassName slot)) ≡ []
 
 -- two maps have the same files of some classes
 abbrev pub SameFilesOf : List (List ℕ) → Files → Files → Type 0

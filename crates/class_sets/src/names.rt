@@ -1,12 +1,14 @@
-ghost use Rattle.std.specs.Prelude.{◌≡◌, ◌++◌, ◌∷◌, [], IfOk, OnOk, string_bytes};
+ghost use Rattle.std.specs.Prelude.{◌≡◌, ◌++◌, ◌∷◌, [], IfOk, OnOk, None, string_bytes};
 ghost use Rattle.nv_outside.specs.Faults.{CountsFailure, shelf_failed};
 ghost use Rattle.nv_outside.specs.Files.{SameFiles};
 ghost use Rattle.class_names.specs.Kept.{IsClass};
-ghost use Rattle.class_sets.specs.ClassSets.{names_asked};
-ghost use Rattle.class_sets.specs.Waiting.{fresh, GivesFile, IsOnce, last_of};
+ghost use Rattle.class_definition.specs.PoolChecks.{pool_entry_fault};
+ghost use Rattle.class_sets.specs.ClassSets.{asked_in, names_asked};
+ghost use Rattle.class_sets.specs.Waiting.{fresh, AreAsked, GivesFile, IsOnce, last_of};
 
 use crate::asked::{asked_name, plain_text};
 use crate::reading::load_file;
+use constant_pool::Entry;
 use indexmap::IndexSet;
 use jvm_code::Class;
 use nv_outside::{Shelf, ShelfError};
@@ -87,12 +89,38 @@ impl Names {
             ++ fresh (self.old.asked ++ self.old.waiting) (names_asked class.now)) }
     {
         let pool = class.pool.as_slice();
+        let mut seen = IndexSet::new(alloc);
         for entry in pool {
-            if let Some(name) = asked_name(pool, entry) {
-                self.insert(plain_text(alloc, name)?)?;
-            }
+            self.add_entry(alloc, pool, &mut seen, entry)?;
         }
         Ok(())
+    }
+
+    // Puts the name that an entry asks for behind the others, unless an entry of a text in one of these slots asked for it.
+    fn add_entry(
+        &mut self,
+        alloc: Global,
+        pool: &[Entry],
+        seen: &mut IndexSet<u16>,
+        entry: &Entry,
+    ) -> Result<(), AllocError>
+        requires sound { pool_entry_fault pool.now entry.now ≡ None }
+        requires seen { AreAsked pool.now seen.old.keys self.old }
+        ensures seen { OnOk result (AreAsked pool.now seen.new.keys self.new) }
+        ensures asked { OnOk result (self.new.asked ≡ self.old.asked) }
+        ensures waiting { OnOk result (self.new.waiting ≡ self.old.waiting
+            ++ fresh (self.old.asked ++ self.old.waiting) (asked_in pool.now entry.now)) }
+    {
+        let Entry::ClassName(slot) = entry else {
+            return Ok(());
+        };
+        if !seen.insert(*slot)? {
+            return Ok(());
+        }
+        match asked_name(pool, *slot) {
+            Some(name) => self.insert(plain_text(alloc, name)?),
+            None => Ok(()),
+        }
     }
 
     // Puts a name behind the others, where it is not there.
