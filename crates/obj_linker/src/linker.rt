@@ -12,11 +12,12 @@ use std::alloc::Global;
 /// Links objects into the bytes of an ELF file that begins at a symbol.
 ///
 /// There are at most 256 objects of at most 67,108,864 bytes each, which `first_too_large` tests. The text begins at 00400000
-/// (hexadecimal) with the code, the data at 10000000. Time and memory go by what is read of the objects: their symbols, their
-/// relocations and the sections that are placed. Names are compared by number.
+/// (hexadecimal) with the code, the data at 10000000. Time and memory go by the bytes of the objects and of the program: names
+/// are read once and compared by number, and no more relocations of an object are taken than its bytes hold.
 ///
 /// # Errors
-/// `Refused` with the first check that the objects fail; `NoMemory` where there is not enough memory.
+/// `Refused` with the first check that the objects fail; `NoMemory` where there is not enough memory, or where sections of
+/// relocations share bytes, so that there are more of them than the bytes of their object hold.
 #[tactic(auto, unfolding(crate::specs::Link::objects_fault))]
 pub fn link_objects(alloc: Global, objects: &[Vec<u8>], entry: &str) -> Result<Vec<u8>, ObjError>
     requires few { length objects.now ≤ 256 }

@@ -111,6 +111,10 @@ fn placed_target(sections: &[Section], s: &Section) -> Option<Section>
 }
 
 /// Appends the entries of a section of relocations, which lies in the file.
+///
+/// # Errors
+/// Where there is no memory for them. None is taken for more entries than a file of this length can hold, which there are only
+/// where sections share bytes.
 fn append_entries(
     relocations: &mut Vec<Relocation>,
     start: Start,
@@ -123,7 +127,12 @@ fn append_entries(
     ensures { OnOk result (relocations.new.items
         ≡ relocations.old.items ++ spec.entries_of start b.now s.now) }
 {
-    for k in 0..s.sh_size / Relocation::SIZE as u32 {
+    let count = s.sh_size / Relocation::SIZE as u32;
+    let room = (b.len() / Relocation::SIZE).saturating_sub(relocations.len());
+    if room < count as usize {
+        return Err(AllocError);
+    }
+    for k in 0..count {
         relocations.push(Relocation::read(start, b, s, k))?;
     }
     Ok(())
