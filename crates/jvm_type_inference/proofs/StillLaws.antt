@@ -5,7 +5,7 @@ use Rattle.jvm_definition.specs.declared.kind.Kind.{Kind}
 use Rattle.jvm_definition.specs.declared.kind.Kind.TheVariants.{Top, Int, Long, Null, Ints, Pages, Text}
 use Rattle.jvm_definition.specs.Typing.{below, stack_below, no_top}
 use Rattle.jvm_type_inference.specs.Joins.{joined, joined_stacks, with_operand, locals_below}
-use Rattle.jvm_type_inference.specs.Parts.{code_of}
+use Rattle.jvm_type_inference.specs.Kinds.{code_of}
 use Rattle.jvm_type_inference.proofs.KindLaws.{below-refl}
 use Rattle.jvm_type_inference.proofs.StackLaws.{no_top-head, no_top-tail}
 use Rattle.jvm_type_inference.proofs.JoinLaws.{stack-refl, operand-is}

@@ -9,4 +9,3 @@ pub mod Flow
 pub mod Reached
 pub mod Inferred
 pub mod Working
-pub mod Parts

@@ -6,10 +6,7 @@ ghost use Rattle.jvm_type_inference.specs.Actions.{program_over, Enters};
 ghost use Rattle.jvm_type_inference.specs.Flow.{IsTable};
 ghost use Rattle.jvm_type_inference.specs.Frames.{type_frame, IsSized};
 
-use crate::actions::{action_of, is_local_within};
-use crate::apply::applied;
 use crate::frame::Frame;
-use crate::kinds::has_room;
 use jvm_definition::{Instruction, LinkedLine, LinkedMethod};
 use std::alloc::{AllocError, Global};
 
@@ -61,15 +58,11 @@ impl Code<'_> {
             IsSized self.now.method.now.locals self.now.method.now.stack frame.now
             → IsSized self.now.method.now.locals self.now.method.now.stack b)) }
     {
-        let action = action_of(instruction);
-        if !is_local_within(&action, self.method.locals) {
-            return Ok(None);
-        }
-        match applied(alloc, self.methods, &action, frame)? {
-            Some(behind) if has_room(behind.stack.as_slice(), self.method.stack) => Ok(Some(
-                behind,
-            )),
-            _ => Ok(None),
+        let mut behind = frame.copied()?;
+        if behind.step(alloc, self, instruction)? {
+            Ok(Some(behind))
+        } else {
+            Ok(None)
         }
     }
 }

@@ -1,12 +1,12 @@
-ghost use Rattle.std.specs.Prelude.{◌≡◌, ◌<◌, ◌++◌, ◌∷◌, [], true, length};
+ghost use Rattle.std.specs.Prelude.{◌≡◌, ◌<◌, ◌++◌, ◌∷◌, [], true, length, MatchOption};
 
 use jvm_definition::Kind;
 use std::marker::Model;
 
 /// The greatest number of types.
-pub const ROOM: usize = 14;
+pub const ROOM: usize = 30;
 
-/// At most 14 types in order, which cost no memory.
+/// At most 30 types in order, which cost no memory.
 #[derive(Drop)]
 pub struct FewKinds {
     kinds: [Kind; ROOM],
@@ -21,7 +21,7 @@ impl Model for FewKinds {
 
     ghost view = { λ k. take k.count k.kinds };
 
-    ghost invariant = { λ k. k.count ≤ 14 };
+    ghost invariant = { λ k. k.count ≤ 30 };
 }
 
 impl FewKinds {
@@ -57,7 +57,7 @@ impl FewKinds {
     /// Whether there is room for one more.
     #[inline(always)]
     pub fn has_room(&self) -> bool
-        ensures { result ≡ true → length self.now < 14 }
+        ensures { result ≡ true → length self.now < 30 }
     {
         usize::from(self.count) < ROOM
     }
@@ -65,10 +65,23 @@ impl FewKinds {
     /// Adds a type after the others.
     #[inline(always)]
     pub fn push(&mut self, kind: Kind)
-        requires { length self.old < 14 }
+        requires { length self.old < 30 }
         ensures { self.new ≡ self.old ++ kind ∷ [] }
     {
         self.kinds[usize::from(self.count)] = kind;
         self.count += 1;
+    }
+
+    /// Takes the last type, where there is one.
+    #[inline(always)]
+    pub fn pop(&mut self) -> Option<Kind>
+        ensures { MatchOption result ((self.old ≡ []) × (self.new ≡ []))
+            (λ k. self.old ≡ self.new ++ k ∷ []) }
+    {
+        if self.count == 0 {
+            return None;
+        }
+        self.count -= 1;
+        Some(self.kinds[usize::from(self.count)])
     }
 }

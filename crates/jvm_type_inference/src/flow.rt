@@ -103,7 +103,7 @@ impl Flow {
             targets.now self.old.frames.items good self.new.frames.items) }
     {
         for target in targets {
-            let copy = frame.copied(alloc)?;
+            let copy = frame.copied()?;
             if !self.flow(alloc, code, limit, copy, *target as usize)? {
                 return Ok(false);
             }

@@ -1,8 +1,8 @@
 //! Types and the order between them (JVM Specification, 4.10.1.2).
 ghost use Rattle.std.specs.Prelude.{◌≡◌, ◌≤◌, true, IsTrue, ◌↔◌};
-ghost use Rattle.jvm_definition.specs.Typing.{below, is_reference_kind, is_long_kind, is_array_kind, moves_kind, no_top, same_kind, slots_of, stack_below};
+ghost use Rattle.jvm_definition.specs.Typing.{below, is_reference_kind, is_long_kind, is_array_kind, moves_kind, same_kind, slots_of, stack_below};
 ghost use Rattle.jvm_type_inference.specs.Joins as joins;
-ghost use Rattle.jvm_type_inference.specs.Parts as codes;
+ghost use Rattle.jvm_type_inference.specs.Kinds as codes;
 
 use jvm_definition::{Kind, LocalKind};
 
@@ -84,21 +84,6 @@ pub fn is_moved(moved: LocalKind, kind: Kind) -> bool
         LocalKind::Int => matches!(kind, Kind::Int),
         LocalKind::Reference => is_reference(kind),
     }
-}
-
-/// Whether each operand has a type.
-#[inline(always)]
-pub fn has_no_top(stack: &[Kind]) -> bool
-    ensures { result ≡ no_top stack.now }
-{
-    let mut rest = stack;
-    while let Some((kind, others)) = rest.split_first() {
-        if is_top(*kind) {
-            return false;
-        }
-        rest = others;
-    }
-    true
 }
 
 /// Whether operands have room, where a long is two (JVM Specification, 2.6.2).

@@ -4,16 +4,17 @@ ghost use Rattle.jvm_definition.specs.declared.kind.Kind.TheVariants as kinds;
 ghost use Rattle.jvm_definition.specs.Typing as typing;
 ghost use Rattle.jvm_type_inference.specs.Working.{working};
 
-use crate::apply::local_at;
-use crate::kinds::is_moved;
-use crate::operands::Operands;
+use crate::kind_list::KindList;
+use crate::kinds::{is_moved, is_same};
+use crate::shared_kinds::SharedKinds;
 use jvm_definition::{Kind, LocalKind};
-use std::alloc::AllocError;
+use std::alloc::{AllocError, Global};
 
 /// Puts a local variable above the operands.
 pub fn loads(
+    alloc: Global,
     locals: &[Kind],
-    stack: &mut Operands,
+    stack: &mut KindList,
     moved: LocalKind,
     index: usize,
 ) -> Result<bool, AllocError>
@@ -27,62 +28,99 @@ pub fn loads(
     if !is_moved(moved, kind) {
         return Ok(false);
     }
-    stack.push(kind)?;
+    stack.push(alloc, kind)?;
     Ok(true)
 }
 
 /// Takes the uppermost operand to a local variable.
 pub fn stores(
-    locals: &mut Vec<Kind>,
-    stack: &mut Operands,
+    alloc: Global,
+    locals: &mut SharedKinds,
+    stack: &mut KindList,
     moved: LocalKind,
     index: usize,
 ) -> Result<bool, AllocError>
     requires { index < 2 ^ 8 }
     ensures fits { IfOk result (λ good. good ≡ true
-        → typing.applied (typing.stores moved index) (working locals.old.items stack.old)
-        ≡ Some (working locals.new.items stack.new)) }
+        → typing.applied (typing.stores moved index) (working locals.old stack.old)
+        ≡ Some (working locals.new stack.new)) }
     ensures misses { IfOk result (λ good. good ≡ false
-        → typing.applied (typing.stores moved index) (working locals.old.items stack.old)
+        → typing.applied (typing.stores moved index) (working locals.old stack.old)
         ≡ None) }
-    ensures sized { IfOk result (λ _. (n : ℕ) → length locals.old.items ≤ n → index < n
-        → length locals.new.items ≤ n) }
+    ensures sized { IfOk result (λ _. (n : ℕ) → length locals.old ≤ n → index < n
+        → length locals.new ≤ n) }
 {
     match stack.pop() {
         Some(kind) if is_moved(moved, kind) => {
-            set_local(locals, index, kind)?;
+            *locals = with_local(alloc, locals, index, kind)?;
             Ok(true)
         }
         _ => Ok(false),
     }
 }
 
-// Gives a local variable a type.
-fn set_local(locals: &mut Vec<Kind>, index: usize, kind: Kind) -> Result<(), AllocError>
+// Local variables of which one has another type.
+fn with_local(
+    alloc: Global,
+    locals: &SharedKinds,
+    index: usize,
+    kind: Kind,
+) -> Result<SharedKinds, AllocError>
     requires { index < 2 ^ 8 }
-    ensures kinds { IfOk result (λ _. (i : ℕ) → slice_index_or locals.new.items i kinds.Top
-        ≡ (if i == index then kind else slice_index_or locals.old.items i kinds.Top)) }
-    ensures sized { IfOk result (λ _. (n : ℕ) → length locals.old.items ≤ n → index < n
-        → length locals.new.items ≤ n) }
+    ensures kinds { IfOk result (λ s. (i : ℕ) → slice_index_or s i kinds.Top
+        ≡ (if i == index then kind else slice_index_or locals.now i kinds.Top)) }
+    ensures sized { IfOk result (λ s. (n : ℕ) → length locals.now ≤ n → index < n
+        → length s ≤ n) }
 {
-    pad(locals, index)?;
-    locals[index] = kind;
-    Ok(())
+    if is_same(local_at(locals.as_slice(), index), kind) {
+        return locals.shared();
+    }
+    let kinds = with_kind(alloc, locals.as_slice(), index, kind)?;
+    SharedKinds::new(alloc, kinds)
 }
 
-// Puts `Top` behind the local variables as far as an index.
-fn pad(locals: &mut Vec<Kind>, index: usize) -> Result<(), AllocError>
+// The types with another one at an index.
+fn with_kind(
+    alloc: Global,
+    locals: &[Kind],
+    index: usize,
+    kind: Kind,
+) -> Result<Vec<Kind>, AllocError>
     requires { index < 2 ^ 8 }
-    ensures kinds { IfOk result (λ _. (i : ℕ) → slice_index_or locals.new.items i kinds.Top
-        ≡ slice_index_or locals.old.items i kinds.Top) }
-    ensures room { IfOk result (λ _. index < length locals.new.items) }
-    ensures sized { IfOk result (λ _. (n : ℕ) → length locals.old.items ≤ n → index < n
-        → length locals.new.items ≤ n) }
+    ensures kinds { IfOk result (λ v. (i : ℕ) → slice_index_or v.items i kinds.Top
+        ≡ (if i == index then kind else slice_index_or locals.now i kinds.Top)) }
+    ensures sized { IfOk result (λ v. (n : ℕ) → length locals.now ≤ n → index < n
+        → length v.items ≤ n) }
 {
-    while locals.len() <= index {
-        locals.push(Kind::Top)?;
+    let mut kinds = padded(alloc, locals, index)?;
+    kinds[index] = kind;
+    Ok(kinds)
+}
+
+// The types, and behind them `Top` as far as an index.
+fn padded(alloc: Global, locals: &[Kind], index: usize) -> Result<Vec<Kind>, AllocError>
+    requires { index < 2 ^ 8 }
+    ensures kinds { IfOk result (λ v. (i : ℕ) → slice_index_or v.items i kinds.Top
+        ≡ slice_index_or locals.now i kinds.Top) }
+    ensures room { IfOk result (λ v. index < length v.items) }
+    ensures sized { IfOk result (λ v. (n : ℕ) → length locals.now ≤ n → index < n
+        → length v.items ≤ n) }
+{
+    let mut kinds = Vec::from_slice(alloc, locals)?;
+    while kinds.len() <= index {
+        kinds.push(Kind::Top)?;
     }
-    Ok(())
+    Ok(kinds)
+}
+
+// The type of a local variable.
+fn local_at(locals: &[Kind], index: usize) -> Kind
+    ensures { result ≡ slice_index_or locals.now index kinds.Top }
+{
+    match locals.get(index) {
+        Some(kind) => *kind,
+        None => Kind::Top,
+    }
 }
 
 /// Whether a local variable is an int.

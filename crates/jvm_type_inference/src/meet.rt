@@ -7,7 +7,7 @@ ghost use Rattle.jvm_type_inference.specs.declared.meeting.Meeting.{Meeting};
 
 use crate::frame::Frame;
 use crate::kind_list::KindList;
-use crate::kinds::{are_locals_below, has_no_top, is_stack_below, is_top, join};
+use crate::kinds::{are_locals_below, is_top, join};
 use crate::meeting::Meeting;
 use crate::shared_kinds::SharedKinds;
 use jvm_definition::Kind;
@@ -34,7 +34,7 @@ pub fn meet(alloc: Global, old: &Option<Frame>, frame: Frame) -> Result<Meeting,
 fn first_frame(frame: Frame) -> Meeting
     ensures { IsMeeting None frame result }
 {
-    if has_no_top(frame.stack.as_slice()) {
+    if frame.stack.are_typed() {
         Meeting::Changed(frame)
     } else {
         Meeting::Refused
@@ -46,7 +46,7 @@ pub fn is_frame_below(frame: &Frame, other: &Frame) -> bool
     ensures { result
         ≡ joins.frame_below frame.now.locals frame.now.stack other.now.locals other.now.stack }
 {
-    is_stack_below(frame.stack.as_slice(), other.stack.as_slice())
+    frame.stack.is_below(&other.stack)
         && are_locals_below(frame.locals.as_slice(), other.locals.as_slice())
 }
 
@@ -71,12 +71,12 @@ fn joined_stack(
 ) -> Result<Option<KindList>, AllocError>
     ensures { IfOk result (λ o. o ≡ joins.joined_stacks stack.now others.now) }
 {
-    let kinds = stack.as_slice();
-    let others = others.as_slice();
-    if has_no_top(kinds) && is_stack_below(others, kinds) {
-        return Ok(Some(stack.copied(alloc)?));
+    if stack.are_typed() && others.is_below(stack) {
+        return Ok(Some(stack.copied()?));
     }
-    match joined_kinds(alloc, kinds, others)? {
+    let kinds = stack.to_vec(alloc)?;
+    let others = others.to_vec(alloc)?;
+    match joined_kinds(alloc, kinds.as_slice(), others.as_slice())? {
         Some(joined) => Ok(Some(KindList::from_vec(alloc, joined)?)),
         None => Ok(None),
     }

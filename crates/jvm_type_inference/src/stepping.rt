@@ -3,13 +3,13 @@ ghost use Rattle.std.specs.Prelude.{◌≡◌, true, false, None, Some, [], ◌+
 ghost use Rattle.jvm_definition.specs.Effect.{last_first};
 ghost use Rattle.jvm_definition.specs.Typing as typing;
 
+use crate::kind_list::KindList;
 use crate::kinds::{is_array, is_below, is_reference};
-use crate::operands::Operands;
 use jvm_definition::Kind;
-use std::alloc::AllocError;
+use std::alloc::{AllocError, Global};
 
 /// Takes operands below some types, top first; or there are no such ones.
-fn takes(stack: &mut Operands, kinds: &[Kind]) -> bool
+fn takes(stack: &mut KindList, kinds: &[Kind]) -> bool
     ensures fits { result ≡ true → typing.taken kinds.now stack.old ≡ Some stack.new }
     ensures misses { result ≡ false → typing.taken kinds.now stack.old ≡ None }
 {
@@ -25,7 +25,7 @@ fn takes(stack: &mut Operands, kinds: &[Kind]) -> bool
 }
 
 /// Takes arguments, the last of which is uppermost; or there are no such ones.
-pub fn takes_arguments(stack: &mut Operands, parameters: &[Kind]) -> bool
+pub fn takes_arguments(stack: &mut KindList, parameters: &[Kind]) -> bool
     ensures fits { result ≡ true
         → typing.taken (last_first parameters.now []) stack.old ≡ Some stack.new }
     ensures misses { result ≡ false
@@ -44,7 +44,8 @@ pub fn takes_arguments(stack: &mut Operands, parameters: &[Kind]) -> bool
 
 /// Takes operands below some types, top first, and gives one or none; or there are no such ones.
 pub fn exchanges(
-    stack: &mut Operands,
+    alloc: Global,
+    stack: &mut KindList,
     kinds: &[Kind],
     given: Option<Kind>,
 ) -> Result<bool, AllocError>
@@ -55,23 +56,23 @@ pub fn exchanges(
     if !takes(stack, kinds) {
         return Ok(false);
     }
-    gives(stack, given)?;
+    gives(alloc, stack, given)?;
     Ok(true)
 }
 
 /// Puts an operand, or none, above the others.
 #[inline(always)]
-pub fn gives(stack: &mut Operands, given: Option<Kind>) -> Result<(), AllocError>
+pub fn gives(alloc: Global, stack: &mut KindList, given: Option<Kind>) -> Result<(), AllocError>
     ensures { IfOk result (λ _. stack.new ≡ option_to_list given ++ stack.old) }
 {
     if let Some(kind) = given {
-        stack.push(kind)?;
+        stack.push(alloc, kind)?;
     }
     Ok(())
 }
 
 /// Takes a reference; or none is uppermost.
-pub fn takes_reference(stack: &mut Operands) -> bool
+pub fn takes_reference(stack: &mut KindList) -> bool
     ensures fits { result ≡ true
         → typing.taken_one typing.is_reference_kind stack.old ≡ Some stack.new }
     ensures misses { result ≡ false
@@ -84,7 +85,7 @@ pub fn takes_reference(stack: &mut Operands) -> bool
 }
 
 /// Takes a reference to an array; or none is uppermost.
-pub fn takes_array(stack: &mut Operands) -> bool
+pub fn takes_array(stack: &mut KindList) -> bool
     ensures fits { result ≡ true
         → typing.taken_one typing.is_array_kind stack.old ≡ Some stack.new }
     ensures misses { result ≡ false

@@ -9,7 +9,6 @@ ghost use Rattle.jvm_type_inference.specs.Frames.{type_frame, IsFormed};
 use crate::code::Code;
 use crate::frame::Frame;
 use crate::walked::Walked;
-use crate::working::Working;
 use jvm_definition::LinkedLine;
 use std::alloc::{AllocError, Global};
 
@@ -32,14 +31,14 @@ pub fn walk(
     ensures sized { IfOk result (blocks.IsEndSized code.now.method.now.locals
         code.now.method.now.stack) }
 {
-    let mut working = Working::of(alloc, frame)?;
+    let mut working = frame.copied()?;
     let mut at = first;
     while let Some(line) = code.line_at(at) {
-        if !working.step(code, &line.instruction)? {
+        if !working.step(alloc, code, &line.instruction)? {
             return Ok(Walked::Fails(at));
         }
         let Some(next) = next_inside(before, line, at) else {
-            return Ok(Walked::Ends(at, working.into_frame(alloc)?));
+            return Ok(Walked::Ends(at, working));
         };
         if !working.stack.are_typed() {
             return Ok(Walked::Fails(at));

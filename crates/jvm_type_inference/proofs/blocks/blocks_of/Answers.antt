@@ -1,4 +1,4 @@
-use Rattle.std.proofs.Common.{◌≡◌, ◌+◌, length, subst, sym, ◌∙◌, Some, None, add-one, arith}
+use Rattle.std.proofs.Common.{◌≡◌, ◌+◌, suc, length, subst, sym, ◌∙◌, Some, None, add-one, arith}
 use Rattle.jvm_definition.specs.Program.{line_in}
 use Rattle.jvm_type_inference.specs.Marks.{AreMarked}
 use Rattle.jvm_type_inference.proofs.CallLaws.{none-there}

@@ -1,9 +1,7 @@
 use Rattle.std.proofs.Common.{◌≡◌, ◌<◌, ◌≤◌, length, subst, sym, ◌∙◌, arith}
 use Rattle.jvm_definition.specs.Typing.{TypeFrame, slots_of}
 use Rattle.jvm_type_inference.specs.Actions.{program_over}
-use Rattle.jvm_type_inference.specs.Blocks.{WalkEnds}
 use Rattle.jvm_type_inference.specs.Frames.{type_frame}
-use Rattle.jvm_type_inference.specs.Working.{working}
 use Rattle.jvm_type_inference.proofs.CallLaws.{length-slots}
 use Rattle.jvm_type_inference.proofs.WalkLaws.{IsWalking, walk-begins, walk-fails, walk-ends, walk-fails-typed, walk-goes, no-next}
 use Rattle.jvm_type_inference.proofs.walk.walk.Goals as goal
@@ -13,18 +11,16 @@ loop-line-init c =
     let a = c.args in
     let p = program_over a.code.now.methods.now in
     let m = a.code.now.method.now in
-    let w = c.in_ok-working.working in
-    let f : TypeFrame = type_frame a.frame.now in
-    let is : working w.locals.items w.stack ≡ f = λ i. working (c.in_ok-working.ensures.locals i) (c.in_ok-working.ensures.stack i) in (
-      subst (λ x. IsWalking p m a.before.now a.first f a.first x) (sym is) (walk-begins p m a.before.now a.first f c.requires.there c.requires.formed.operands),
-      subst (λ x. length x ≤ m.locals) (sym c.in_ok-working.ensures.locals) c.requires.formed.sized.locals_fit,
+    let f : TypeFrame = type_frame a.frame.now in (
+      subst (λ x. IsWalking p m a.before.now a.first f a.first (type_frame x)) (sym c.in_ok-working.ensures) (walk-begins p m a.before.now a.first f c.requires.there c.requires.formed.operands),
+      subst (λ x. length x.locals ≤ m.locals) (sym c.in_ok-working.ensures) c.requires.formed.sized.locals_fit,
     )
 
 pub returns-then-not-branch-clause-walk : goal.returns-then-not-branch-clause-walk
 returns-then-not-branch-clause-walk c =
     let a = c.args in
     let l = c.loop-line in
-    walk-fails (program_over a.code.now.methods.now) a.code.now.method.now a.before.now a.first (type_frame a.frame.now) l.at (working l.working.locals.items l.working.stack) c.in-Some.line.now l.invariant.0
+    walk-fails (program_over a.code.now.methods.now) a.code.now.method.now a.before.now a.first (type_frame a.frame.now) l.at (type_frame l.working) c.in-Some.line.now l.invariant.0
     (sym c.in-Some.ensures.found) (c.in_ok-step.ensures.misses c.if-not-branch.true)
 
 pub returns-in_default-next_inside-clause-walk : goal.returns-in_default-next_inside-clause-walk
@@ -36,10 +32,8 @@ returns-in_default-next_inside-clause-walk c =
     let w = c.step.new.self in
     let f : TypeFrame = type_frame a.frame.now in
     let found = sym c.in-Some.ensures.found in
-    let is : type_frame c.in_ok-into_frame.field-0 ≡ working w.locals.items w.stack = λ i. working (c.in_ok-into_frame.ensures.locals i) (c.in_ok-into_frame.ensures.stack i) in
-    subst (λ x. WalkEnds p m a.before.now a.first f l.at x) (sym is)
-    (walk-ends p m a.before.now a.first f l.at (working l.working.locals.items l.working.stack) (working w.locals.items w.stack) c.in-Some.line.now l.invariant.0 found (c.in_ok-step.ensures.enters c.if-not-branch.false)
-    (no-next p m a.before.now a.first f l.at c.in-Some.line.now c.requires.parts found c.in_default-next_inside.ensures))
+    walk-ends p m a.before.now a.first f l.at (type_frame l.working) (type_frame w) c.in-Some.line.now l.invariant.0 found (c.in_ok-step.ensures.enters c.if-not-branch.false)
+    (no-next p m a.before.now a.first f l.at c.in-Some.line.now c.requires.parts found c.in_default-next_inside.ensures)
 
 pub returns-in_default-next_inside-clause-sized : goal.returns-in_default-next_inside-clause-sized
 returns-in_default-next_inside-clause-sized c =
@@ -49,8 +43,8 @@ returns-in_default-next_inside-clause-sized c =
     let room : slots_of w.stack ≤ m.stack = enters.within in
     let fits : length w.stack ≤ m.stack = omega (arith, room, length-slots w.stack) in
     record {
-      locals_fit = subst (λ x. length x ≤ m.locals) (sym c.in_ok-into_frame.ensures.locals) (c.in_ok-step.ensures.sized c.if-not-branch.false c.loop-line.invariant.1);
-      stack_fits = subst (λ x. length x ≤ m.stack) (sym c.in_ok-into_frame.ensures.stack) fits;
+      locals_fit = c.in_ok-step.ensures.sized c.if-not-branch.false c.loop-line.invariant.1;
+      stack_fits = fits;
     }
 
 pub returns-then-not-are_typed-clause-walk : goal.returns-then-not-are_typed-clause-walk
@@ -59,7 +53,7 @@ returns-then-not-are_typed-clause-walk c =
     let l = c.loop-line in
     let w = c.step.new.self in
     walk-fails-typed (program_over a.code.now.methods.now) a.code.now.method.now a.before.now a.first (type_frame a.frame.now) c.requires.parts l.at c.in-Some-next_inside.next
-    (working l.working.locals.items l.working.stack) (working w.locals.items w.stack) c.in-Some.line.now l.invariant.0 (sym c.in-Some.ensures.found) (c.in_ok-step.ensures.enters c.if-not-branch.false) c.in-Some-next_inside.ensures
+    (type_frame l.working) (type_frame w) c.in-Some.line.now l.invariant.0 (sym c.in-Some.ensures.found) (c.in_ok-step.ensures.enters c.if-not-branch.false) c.in-Some-next_inside.ensures
     (sym c.are_typed.ensures ∙ c.if-not-are_typed.true)
 
 pub loop-line-smaller : goal.loop-line-smaller
@@ -75,7 +69,7 @@ loop-line-preserved c =
     let l = c.loop-line in
     let w = c.step.new.self in (
       walk-goes (program_over a.code.now.methods.now) a.code.now.method.now a.before.now a.first (type_frame a.frame.now) c.requires.parts l.at c.in-Some-next_inside.next
-          (working l.working.locals.items l.working.stack) (working w.locals.items w.stack) c.in-Some.line.now l.invariant.0 (sym c.in-Some.ensures.found) (c.in_ok-step.ensures.enters c.if-not-branch.false) c.in-Some-next_inside.ensures
+          (type_frame l.working) (type_frame w) c.in-Some.line.now l.invariant.0 (sym c.in-Some.ensures.found) (c.in_ok-step.ensures.enters c.if-not-branch.false) c.in-Some-next_inside.ensures
           (sym c.are_typed.ensures ∙ c.if-not-are_typed.false),
       c.in_ok-step.ensures.sized c.if-not-branch.false l.invariant.1,
     )

@@ -1,4 +1,4 @@
-use Rattle.std.proofs.Common.{◌≡◌, length, subst, sym, ◌∙◌, arith}
+use Rattle.std.proofs.Common.{◌≡◌, length, subst, sym, ◌∙◌, Some, arith}
 use Rattle.std.specs.Prelude.{All}
 use Rattle.jvm_definition.specs.Program.{successors}
 use Rattle.jvm_type_inference.specs.Marks.{AreMarked, IsLeader}

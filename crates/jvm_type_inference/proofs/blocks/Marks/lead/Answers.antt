@@ -1,4 +1,4 @@
-use Rattle.std.proofs.Common.{get_or, refl, subst}
+use Rattle.std.proofs.Common.{get_or, refl, subst, arith}
 use Rattle.std.specs.Prelude.{All}
 use Rattle.std.proofs.lemmas.List.{take_all}
 use Rattle.jvm_type_inference.specs.Marks.{IsLeader}

@@ -7,5 +7,5 @@ pub returns : goal.returns
 returns c is =
     let k = c.self.inside in
     let counted : length c.args.self.now ≡ min k.count (length k.kinds) = ap length (sym c.self.view_is) ∙ length-take k.count k.kinds in
-    let less : c.from.result < 14 = ltb-true c.from.result 14 is in
+    let less : c.from.result < 30 = ltb-true c.from.result 30 is in
     omega (arith, counted, less, c.from.ensures)

@@ -1,4 +1,4 @@
-use Rattle.std.proofs.Common.{refl, subst, sym, add-one, arith}
+use Rattle.std.proofs.Common.{suc, refl, subst, sym, add-one, arith}
 use Rattle.jvm_definition.specs.Program.{line_in}
 use Rattle.jvm_type_inference.specs.Actions.{program_over}
 use Rattle.jvm_type_inference.specs.Flow.{AdmitsTo}

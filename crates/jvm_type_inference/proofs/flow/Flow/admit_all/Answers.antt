@@ -1,4 +1,4 @@
-use Rattle.std.proofs.Common.{◌≡◌, ◌<◌, ◌≤◌, length, subst, ◌∙◌, arith}
+use Rattle.std.proofs.Common.{◌≡◌, ◌<◌, ◌≤◌, length, subst, sym, ◌∙◌, arith}
 use Rattle.jvm_type_inference.specs.Actions.{program_over}
 use Rattle.jvm_type_inference.specs.Blocks.{AreSpread}
 use Rattle.jvm_type_inference.specs.Frames.{frame_at}

@@ -1,4 +1,4 @@
-use Rattle.std.proofs.Common.{◌+◌, suc, true, false, subst, sym, ◌∙◌, add-one, arith}
+use Rattle.std.proofs.Common.{◌≡◌, ◌+◌, suc, Bool, true, false, [], subst, sym, ap, ◌∙◌, add-one, arith}
 use Rattle.jvm_definition.specs.Program.{line_in, successors}
 use Rattle.jvm_type_inference.specs.Actions.{program_over}
 use Rattle.jvm_type_inference.specs.Blocks.{Closed}

@@ -5,7 +5,7 @@ use Rattle.jvm_definition.specs.declared.kind.Kind.{Kind}
 use Rattle.jvm_definition.specs.declared.kind.Kind.TheVariants.{Top}
 use Rattle.jvm_definition.specs.Typing.{same_kind}
 use Rattle.jvm_type_inference.proofs.SameLaws.{same-locals}
-use Rattle.jvm_type_inference.proofs.apply.with_local.Goals as goal
+use Rattle.jvm_type_inference.proofs.locals.with_local.Goals as goal
 
 pub returns-then-is_same-clause-kinds : goal.returns-then-is_same-clause-kinds
 returns-then-is_same-clause-kinds c =

@@ -1,5 +1,5 @@
 use Rattle.jvm_type_inference.specs.Actions.{program_over}
-use Rattle.jvm_type_inference.proofs.working.Working.step.Goals as goal
+use Rattle.jvm_type_inference.proofs.frame.Frame.step.Goals as goal
 
 pub returns-clause-sized : goal.returns-clause-sized
 returns-clause-sized c _ fits =

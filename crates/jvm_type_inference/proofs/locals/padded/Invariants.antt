@@ -1,6 +1,6 @@
 use Rattle.std.proofs.Common.{◌≡◌, ℕ, suc, ◌-◌, ◌<◌, ◌≤◌, length, get_or}
 use Rattle.jvm_definition.specs.declared.kind.Kind.TheVariants.{Top}
-use Rattle.jvm_type_inference.proofs.apply.padded.Given as goal
+use Rattle.jvm_type_inference.proofs.locals.padded.Given as goal
 
 abbrev pub invariant-loop-kinds : goal.invariant-loop-kinds
 invariant-loop-kinds l =
