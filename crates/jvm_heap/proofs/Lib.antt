@@ -1,3 +1,4 @@
 pub mod HeapLaws
 pub mod AccessLaws
 pub mod SafetyLaws
+pub mod Viewing

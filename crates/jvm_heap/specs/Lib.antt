@@ -1,4 +1,3 @@
 pub mod Regions
 pub mod HeapForms
 pub mod Heaps
-pub mod Viewing

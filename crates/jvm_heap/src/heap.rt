@@ -2,7 +2,6 @@ ghost use Rattle.std.specs.Prelude.{◌≡◌, ◌≤◌, ◌∷◌, [], ℕ, No
 ghost use Rattle.jvm_definition.specs.Values.{is_pages_reference, reference_value};
 ghost use Rattle.jvm_definition.specs.HostMemory.{memory_of, byte_of};
 ghost use Rattle.jvm_heap.specs.Regions.{heap_of};
-ghost use Rattle.jvm_heap.specs.Viewing.{written_is_readable, memory_ends, readable_stays, writable_stays};
 
 use crate::cell::cell_of;
 use int_region::{Mark, NoMemory, Place, Region};
@@ -134,11 +133,5 @@ impl View for Heap {
         }
     }
 
-    ghost written_is_readable = { λ c. written_is_readable c.memory };
-
-    ghost ends = { λ c. memory_ends c.memory };
-
-    ghost readable_stays = { λ c. readable_stays c.memory };
-
-    ghost writable_stays = { λ c. writable_stays c.memory };
+    fn laws(&self) {}
 }

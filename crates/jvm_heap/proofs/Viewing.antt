@@ -1,8 +1,9 @@
 -- The laws of a view, of the memory that a call sees.
 use Rattle.std.specs.Prelude.{◌≡◌, ℕ, ◌/◌, ◌%◌, ◌^◌, ◌≤◌, ◌<◌, ◌==◌, nat_lt, Bool, true, false, if◌then◌else◌, Option, Some, None, is_some, option_map, option_and_then, IsTrue, refl}
 use Rattle.std.specs.Option.{option_or}
-use Rattle.std.proofs.Common.{ap, sym, ◌∙◌}
-use Rattle.std.proofs.lemmas.Bool.{le-ltb}
+use Rattle.std.proofs.Common.{ap, sym, ◌∙◌, arith}
+use Rattle.std.proofs.lemmas.Bool.{le-ltb, lt-ltb, ltb-true}
+use Rattle.nv_events.specs.ByPages.{IsByPages}
 use Rattle.run_definition.specs.Words.{lane_of_word, word_with_lane}
 use Rattle.jvm_definition.specs.Values.{Array, ints, pages, Heap, set_int, with_int}
 use Rattle.jvm_definition.specs.HostMemory.{HostMemory, Cell, page_in, word_in_array, cell_of, byte_of, memory_of, with_cell, with_host_byte}
@@ -137,3 +138,76 @@ readable_stays m a b x small h =
 pub writable_stays : (m : HostMemory) (a b x : ℕ) → b < 256 → IsTrue ((memory_of m).writable a)
     → (memory_of (with_host_byte m a b)).writable x ≡ (memory_of m).writable x
 writable_stays m a b x small h = kept_by m.heap (cell_of m.heap m.writable a) (a % 4) b x m.writable
+
+-- ---- an array has the front of a page, or nothing of it
+
+some_if : (t : Bool) (x : ℕ) → is_some (if t then Some x else None) ≡ t
+some_if true x = refl
+some_if false x = refl
+
+word_front : (o : Option Array) (i j : ℕ) → i ≤ j → is_some (word_in_array o j) ≡ true
+    → is_some (word_in_array o i) ≡ true
+word_front None i j le h = h
+word_front (Some (ints size f)) i j le h =
+    let last : j < size = ltb-true j size (sym (some_if (nat_lt j size) (f j)) ∙ h) in
+    some_if (nat_lt i size) (f i) ∙ lt-ltb i size (omega arith)
+word_front (Some (pages size f)) i j le h = h
+
+there_front : (heap : Heap) (a b : ℕ) (page : Option ℕ) → a / 4 % 1024 ≤ b / 4 % 1024
+    → cell_there heap b page ≡ true → cell_there heap a page ≡ true
+unfolding cell_there
+there_front heap a b None le h = h
+there_front heap a b (Some p) le h =
+    word_front (heap.array_at p) (a / 4 % 1024) (b / 4 % 1024) le h
+
+byte_some : (heap : Heap) (table : Option ℕ) (a : ℕ) → is_some (byte_of heap table a)
+    ≡ (if nat_lt a (2 ^ 32) then is_some (cell_of heap table a) else false)
+byte_some heap table a = by_test (nat_lt a (2 ^ 32))
+  where
+    by_test : (t : Bool)
+        → is_some (if t then option_map (λ c. lane_of_word c.word (a % 4)) (cell_of heap table a)
+        else None)
+        ≡ (if t then is_some (cell_of heap table a) else false)
+    by_test true = some_map (λ c. lane_of_word c.word (a % 4)) (cell_of heap table a)
+    by_test false = refl
+
+both_true : (t u : Bool) → (if t then u else false) ≡ true → (t ≡ true) × (u ≡ true)
+both_true true u h = (refl, h)
+both_true false u h = let bad : false ≡ true = h in absurd cc
+
+byte_front : (heap : Heap) (table : Option ℕ) → IsByPages (λ a. is_some (byte_of heap table a))
+byte_front heap table = λ a b le same there.
+    let last = both_true (nat_lt b (2 ^ 32)) (is_some (cell_of heap table b))
+    (sym (byte_some heap table b) ∙ there) in
+    let end : b < 2 ^ 32 = ltb-true b (2 ^ 32) last.0 in
+    let low : nat_lt a (2 ^ 32) ≡ true = lt-ltb a (2 ^ 32) (omega arith) in
+    let page : page_at heap table a ≡ page_at heap table b =
+    ap (λ n. option_and_then (λ t. page_in (heap.array_at t) n) table) same in
+    let cell : cell_there heap b (page_at heap table b) ≡ true =
+    sym (cell_by heap b (page_at heap table b)) ∙ last.1 in
+    let front : cell_there heap a (page_at heap table b) ≡ true =
+    there_front heap a b (page_at heap table b) (omega arith) cell in
+    byte_some heap table a
+    ∙ ap (λ t. if t then is_some (cell_of heap table a) else false) low
+    ∙ cell_by heap a (page_at heap table a)
+    ∙ ap (cell_there heap a) page
+    ∙ front
+
+or_first : (o p : Option ℕ) → is_some o ≡ true → is_some (option_or o p) ≡ true
+or_first None p h = let bad : false ≡ true = h in absurd cc
+or_first (Some x) p h = refl
+
+or_front : (o p s t : Option ℕ) → (is_some o ≡ true → is_some s ≡ true)
+    → (is_some p ≡ true → is_some t ≡ true) → is_some (option_or o p) ≡ true
+    → is_some (option_or s t) ≡ true
+or_front None p s t f g h = or_some s t (g h)
+or_front (Some x) p s t f g h = or_first s t (f refl)
+
+pub reads_by_pages : (m : HostMemory) → IsByPages (λ a. is_some ((memory_of m).byte a))
+reads_by_pages m = λ a b le same there.
+    or_front (byte_of m.heap m.readable b) (byte_of m.heap m.writable b)
+    (byte_of m.heap m.readable a) (byte_of m.heap m.writable a)
+    (byte_front m.heap m.readable a b le same) (byte_front m.heap m.writable a b le same) there
+
+pub writes_by_pages : (m : HostMemory) → IsByPages (memory_of m).writable
+writes_by_pages m = byte_front m.heap m.writable
