@@ -3,3 +3,4 @@ pub mod LoadLemmas
 pub mod BeginLemmas
 pub mod OpeningLemmas
 pub mod TurnLemmas
+pub mod CountLemmas
