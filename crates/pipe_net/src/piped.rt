@@ -122,7 +122,6 @@ impl<'a, S: Source, O: Sink> Piped<'a, S, O> {
 
 impl<'a, S: Source, O: Sink> Server for Piped<'a, S, O> {
     ghost use Rattle.std.proofs.Common.{◌∙◌, refl};
-    ghost use Rattle.std.proofs.lemmas.Option.{none-some};
 
     ghost State = { System };
 
@@ -165,9 +164,7 @@ impl<'a, S: Source, O: Sink> Server for Piped<'a, S, O> {
         }
     }
 
-    ghost goes_as_told = { λ j k q a s w g. absurd (none-some s w) };
-
-    ghost held_as_told = { λ j k q s w h. absurd (none-some s w) };
+    fn laws(&self) {}
 
     ghost keeps_itself = { λ j. (
       refl,
