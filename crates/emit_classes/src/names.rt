@@ -10,12 +10,9 @@ ghost use Rattle.emit_classes.specs.Mentioned.{Mentions, mentioned};
 use crate::ascii::characters_of;
 use crate::error::BuildError;
 use crate::sound_pool::SoundPool;
-use constant_pool::{PoolError, is_field_descriptor, is_member_name, is_method_descriptor};
+use constant_pool::{PoolError, is_field_descriptor, is_member_name, is_own_descriptor};
 use jvm_code::Member;
 use std::alloc::Global;
-
-/// The descriptor of `String.charAt`, `(I)C`, which no method of a class itself has.
-const CHARACTER_AT: [u16; 4] = [40, 73, 41, 67];
 
 /// The slots of a field's name and descriptor.
 pub fn field_slots(
@@ -63,12 +60,6 @@ pub fn method_slots(
         return Err(BuildError::Unlawful);
     }
     Ok(slots_of(pool, name, descriptor)?)
-}
-
-fn is_own_descriptor(descriptor: &[u16]) -> bool
-    ensures { result ≡ is_own_descriptor descriptor.now }
-{
-    is_method_descriptor(descriptor) && descriptor != CHARACTER_AT.as_slice()
 }
 
 fn slots_of(pool: &mut SoundPool, name: Vec<u16>, descriptor: Vec<u16>) -> Result<Member, PoolError>
