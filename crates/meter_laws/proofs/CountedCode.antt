@@ -15,7 +15,8 @@ use Rattle.emit_steps.specs.Outcomes.{Outcome, ended, stopped, later, beyond, ou
 use Rattle.emit_instructions.specs.Access.{push_word, get_field, put_field, arithmetic}
 use Rattle.emit_instructions.specs.Faulting.{fault_code}
 use Rattle.meter.specs.Guards.{left_field, spent_kind, counted_code, likely_guard}
-use Rattle.meter_laws.specs.Meters.{HasLeft, leaving, spent_fault}
+use Rattle.meter_laws.specs.Laws.{StopsSpent}
+use Rattle.meter_laws.specs.Meters.{HasLeft, leaving, spent_fault, with_spent}
 
 -- code comes to its end within twelve instructions, where so many turns are left
 pub record Paid (program : Program) (words : ℕ) (code : List Step) (w : Workspace) (left : ℕ) : Type 0 where
@@ -23,14 +24,6 @@ pub record Paid (program : Program) (words : ℕ) (code : List Step) (w : Worksp
   pub some : 1 ≤ turns
   pub in_time : turns ≤ 12
   pub comes : outcome program words code w ≡ ended turns (leaving left w)
-
--- code ends the run as a spent meter does
-pub record Spent (program : Program) (words : ℕ) (code : List Step) (w : Workspace) (at : ℕ) : Type 0 where
-  pub turns : ℕ
-  pub step : ℕ
-  pub before : Workspace
-  pub in_time : turns + 1 ≤ 12
-  pub comes : outcome program words code w ≡ stopped turns step before (faults (spent_fault at))
 
 -- ---- the test of the meter
 
@@ -93,7 +86,7 @@ module _ (program : Program) (words : ℕ) (w : Workspace) (a : ℕ) (has : HasL
   code-paid k at few least = counted-paid k at [] w.operands few least
 
   pub code-spent : (k at : ℕ) → k ≤ 2 → a < k
-      → outcome program words (counted_code k at) w ≡ stopped 6 6 (over (int 0 ∷ int at ∷ int spent_kind ∷ w.operands)) (faults (spent_fault at))
+      → outcome program words (counted_code k at) w ≡ stopped 6 6 (with_spent w at) (faults (spent_fault at))
   code-spent k at few less = counted-spent k at [] w.operands few less
 
   -- ---- one count
@@ -101,11 +94,11 @@ module _ (program : Program) (words : ℕ) (w : Workspace) (a : ℕ) (has : HasL
   pub one-paid : (k at : ℕ) → k ≤ 2 → k ≤ a → Paid program words (counted_code k at) w (a - k)
   one-paid k at few least = record { turns = 7; some = lit≤ tt; in_time = lit≤ tt; comes = code-paid k at few least }
 
-  pub one-spent : (k at : ℕ) → k ≤ 2 → a < k → Spent program words (counted_code k at) w at
+  pub one-spent : (k at : ℕ) → k ≤ 2 → a < k → StopsSpent program words (counted_code k at) w at
   one-spent k at few less = record {
     turns = 6;
     step = 6;
-    before = over (int 0 ∷ int at ∷ int spent_kind ∷ w.operands);
+    some = lit≤ tt;
     in_time = lit≤ tt;
     comes = code-spent k at few less;
   }
@@ -136,7 +129,7 @@ module _ (program : Program) (words : ℕ) (w : Workspace) (a : ℕ) (has : HasL
 
     likely-spent : (t : Bool) → branches test (over operands) ≡ chooses t (over operands) w.operands → a < turns_by t
         → outcome program words (likely_guard test at) (over operands)
-        ≡ stopped 7 (if t then 19 else 7) (over (int 0 ∷ int at ∷ int spent_kind ∷ w.operands)) (faults (spent_fault at))
+        ≡ stopped 7 (if t then 19 else 7) (with_spent w at) (faults (spent_fault at))
     likely-spent true is less = by-test true is ∙ ap (λ o. later (past o)) (counted-spent 2 at [] w.operands (lit≤ tt) less)
     likely-spent false is less = by-test false is ∙ ap later (counted-spent 1 at (Skips Goto 11 ∷ counted_code 2 at) w.operands (lit≤ tt) less)
 
@@ -162,18 +155,18 @@ module _ (program : Program) (words : ℕ) (w : Workspace) (a : ℕ) (has : HasL
     }
 
     pub of-one-spent : (taken : Bool) → branches test one ≡ chooses taken one w.operands → a < turns_by taken
-        → Spent program words (first ∷ likely_guard test at) w at
+        → StopsSpent program words (first ∷ likely_guard test at) w at
     of-one-spent true is less = record {
       turns = 8;
       step = 20;
-      before = over (int 0 ∷ int at ∷ int spent_kind ∷ w.operands);
+      some = lit≤ tt;
       in_time = lit≤ tt;
       comes = comes (likely_guard test at) ∙ ap later (likely-spent test at (int m ∷ w.operands) true is less);
     }
     of-one-spent false is less = record {
       turns = 8;
       step = 8;
-      before = over (int 0 ∷ int at ∷ int spent_kind ∷ w.operands);
+      some = lit≤ tt;
       in_time = lit≤ tt;
       comes = comes (likely_guard test at) ∙ ap later (likely-spent test at (int m ∷ w.operands) false is less);
     }
@@ -200,18 +193,18 @@ module _ (program : Program) (words : ℕ) (w : Workspace) (a : ℕ) (has : HasL
     }
 
     pub of-two-spent : (taken : Bool) → branches test both ≡ chooses taken both w.operands → a < turns_by taken
-        → Spent program words (first ∷ second ∷ likely_guard test at) w at
+        → StopsSpent program words (first ∷ second ∷ likely_guard test at) w at
     of-two-spent true is less = record {
       turns = 9;
       step = 21;
-      before = over (int 0 ∷ int at ∷ int spent_kind ∷ w.operands);
+      some = lit≤ tt;
       in_time = lit≤ tt;
       comes = comes (likely_guard test at) ∙ ap (λ o. later (later o)) (likely-spent test at (int n ∷ int m ∷ w.operands) true is less);
     }
     of-two-spent false is less = record {
       turns = 9;
       step = 9;
-      before = over (int 0 ∷ int at ∷ int spent_kind ∷ w.operands);
+      some = lit≤ tt;
       in_time = lit≤ tt;
       comes = comes (likely_guard test at) ∙ ap (λ o. later (later o)) (likely-spent test at (int n ∷ int m ∷ w.operands) false is less);
     }

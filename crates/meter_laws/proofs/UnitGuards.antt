@@ -41,9 +41,9 @@ use Rattle.emit_simulation_laws.proofs.GuestFollows.Outcomes.{code-ends-here, co
 use Rattle.emit_simulation_laws.proofs.RegisterLaws.Reading.{register-pushed, known-word}
 use Rattle.emit_simulation_laws.proofs.RegisterLaws.Beside.{beside-held}
 use Rattle.meter.specs.Guards.{left_field, transfer_guard, guard_code}
-use Rattle.meter_laws.specs.Meters.{HasLeft, leaving, spent_fault, EndsSpent}
-use Rattle.meter_laws.specs.Laws.{most_turns}
-use Rattle.meter_laws.proofs.CountedCode.{Paid, Spent, one-paid, one-spent, of-one-paid, of-one-spent, of-two-paid, of-two-spent}
+use Rattle.meter_laws.specs.Meters.{HasLeft, leaving, spent_fault, with_spent, EndsSpent}
+use Rattle.meter_laws.specs.Laws.{StopsSpent, most_turns}
+use Rattle.meter_laws.proofs.CountedCode.{Paid, one-paid, one-spent, of-one-paid, of-one-spent, of-two-paid, of-two-spent}
 
 -- ---- what tests of likely branches choose
 
@@ -140,7 +140,7 @@ module _ (program : Program) (words : ℕ) (known : ℕ → Bool) (w : Workspace
   -- ---- and ends the run where too few are
 
   equal-spent : (name : BranchEqualName) (rs rt imm at : ℕ) → AreKnown known (read_by (inst.BranchEqual name rs rt imm)) → a < turns_of (inst.BranchEqual name rs rt imm)
-      → Spent program words (transfer_guard (inst.BranchEqual name rs rt imm) at) w at
+      → StopsSpent program words (transfer_guard (inst.BranchEqual name rs rt imm) at) w at
   equal-spent Beq rs rt imm at reads less = one-spent program words w a has 2 at (lit≤ tt) less
   equal-spent Bne rs rt imm at reads less = one-spent program words w a has 2 at (lit≤ tt) less
   equal-spent Beql rs rt imm at reads less =
@@ -159,7 +159,7 @@ module _ (program : Program) (words : ℕ) (known : ℕ → Bool) (w : Workspace
       (ap (λ t. chooses (not t) (over (int n ∷ int m ∷ w.operands)) w.operands) (same-signed m n word_s word_t)) less
 
   zero-spent : (name : BranchZeroName) (rs imm at : ℕ) → AreKnown known (read_by (inst.BranchZero name rs imm)) → a < turns_of (inst.BranchZero name rs imm)
-      → Spent program words (transfer_guard (inst.BranchZero name rs imm) at) w at
+      → StopsSpent program words (transfer_guard (inst.BranchZero name rs imm) at) w at
   zero-spent Blez rs imm at reads less = one-spent program words w a has 2 at (lit≤ tt) less
   zero-spent Bgtz rs imm at reads less = one-spent program words w a has 2 at (lit≤ tt) less
   zero-spent Blezl rs imm at reads less =
@@ -171,7 +171,7 @@ module _ (program : Program) (words : ℕ) (known : ℕ → Bool) (w : Workspace
       of-one-spent program words w a has Ifgt at (get_register 0 rs) m (one-pushed rs reads.0) (zero_taken Bgtzl (signed_of m)) refl less
 
   sign-spent : (name : BranchSignName) (rs imm at : ℕ) → AreKnown known (read_by (inst.BranchSign name rs imm)) → a < turns_of (inst.BranchSign name rs imm)
-      → Spent program words (transfer_guard (inst.BranchSign name rs imm) at) w at
+      → StopsSpent program words (transfer_guard (inst.BranchSign name rs imm) at) w at
   sign-spent Bltz rs imm at reads less = one-spent program words w a has 2 at (lit≤ tt) less
   sign-spent Bgez rs imm at reads less = one-spent program words w a has 2 at (lit≤ tt) less
   sign-spent Bltzal rs imm at reads less = one-spent program words w a has 2 at (lit≤ tt) less
@@ -191,13 +191,13 @@ module _ (program : Program) (words : ℕ) (known : ℕ → Bool) (w : Workspace
       of-one-spent program words w a has Ifge at (get_register 0 rs) m (one-pushed rs reads.0) (sign_taken Bgezall (signed_of m))
       (ap (λ t. chooses t (over (int m ∷ w.operands)) w.operands) (not-below (signed_of m))) less
 
-  transfer-spent : (i : Inst) (at : ℕ) → AreKnown known (read_by i) → a < turns_of i → Spent program words (transfer_guard i at) w at
+  transfer-spent : (i : Inst) (at : ℕ) → AreKnown known (read_by i) → a < turns_of i → StopsSpent program words (transfer_guard i at) w at
   transfer-spent (inst.BranchEqual name rs rt imm) at reads less = equal-spent name rs rt imm at reads less
   transfer-spent (inst.BranchZero name rs imm) at reads less = zero-spent name rs imm at reads less
   transfer-spent (inst.BranchSign name rs imm) at reads less = sign-spent name rs imm at reads less
   transfer-spent other at reads less = one-spent program words w a has 2 at (lit≤ tt) less
 
-  pub unit-spent : (unit : Unit) (at : ℕ) → KnownByUnit known unit → a < unit_turn_count unit x → Spent program words (guard_code unit at) w at
+  pub unit-spent : (unit : Unit) (at : ℕ) → KnownByUnit known unit → a < unit_turn_count unit x → StopsSpent program words (guard_code unit at) w at
   unit-spent (Plain i) at knows less = one-spent program words w a has 1 at (lit≤ tt) less
   unit-spent (Branch i slot) at knows less = transfer-spent i at knows.branch less
   unit-spent (SlotMissing i) at knows less = transfer-spent i at knows less
@@ -223,7 +223,7 @@ module _ (is_path : CodeIsPath) (unit : Unit) (site : Site) (order : Order) (kno
       → ComesToTurn site at (at + size code) 1 most_turns (whole_weight order code) (EndsSpent x.pc) (stands site at w)
   guard-spent less =
       let p = unit-spent site.program site.words known w x held left has unit x.pc knows less in
-      code-stops is_path site order at code lies 1 most_turns p.turns p.step w p.before (spent_fault x.pc)
+      code-stops is_path site order at code lies 1 most_turns p.turns p.step w (with_spent w x.pc) (spent_fault x.pc)
       (EndsSpent x.pc) p.comes (omega arith) p.in_time (λ place. refl)
 
 -- ---- the guest's state behind it

@@ -1,14 +1,14 @@
 -- What holds of guards.
-use Rattle.std.specs.Prelude.{◌≡◌, ◌≢◌, ℕ, ◌+◌, ◌-◌, ◌<◌, ◌≤◌, Bool, ◌∷◌}
+use Rattle.std.specs.Prelude.{◌≡◌, ◌≢◌, ℕ, ◌+◌, ◌-◌, ◌<◌, ◌≤◌, Bool, List}
 use Rattle.run_definition.specs.declared.order.Order.{Order}
 use Rattle.mips_definition.specs.State.{State}
 use Rattle.delay_slots.specs.declared.unit.Unit.{Unit}
 use Rattle.delay_slots.specs.Places.{Address}
 use Rattle.delay_slots.specs.Turns.{unit_turn_count}
 use Rattle.jvm_definition.specs.declared.instruction.Instruction.{Instruction}
-use Rattle.jvm_definition.specs.declared.value.Value.TheVariants.{Int as int}
 use Rattle.jvm_definition.specs.Program.{Program}
-use Rattle.jvm_definition.specs.Effect.{Workspace, faults, with_operands}
+use Rattle.jvm_definition.specs.Effect.{Workspace, faults}
+use Rattle.emit_steps.specs.declared.step.Step.{Step}
 use Rattle.emit_steps.specs.Offsets.{CodeOffset}
 use Rattle.emit_steps.specs.Outcomes.{outcome, ended, stopped}
 use Rattle.emit_steps.specs.Placing.{LiesAt}
@@ -19,8 +19,8 @@ use Rattle.emit_simulation_laws.specs.Lawful.{KnownByUnit}
 use Rattle.emit_simulation_laws.specs.Holding.{HoldsOn}
 use Rattle.emit_simulation_laws.specs.Sites.{Site, stands, whole_weight}
 use Rattle.emit_simulation_laws.specs.Following.{ComesToEnd, ComesToTurn}
-use Rattle.meter.specs.Guards.{left_field, spent_kind, counted_code, guard_code}
-use Rattle.meter_laws.specs.Meters.{HasLeft, leaving, spent_fault, EndsSpent}
+use Rattle.meter.specs.Guards.{left_field, counted_code, guard_code}
+use Rattle.meter_laws.specs.Meters.{HasLeft, leaving, spent_fault, with_spent, EndsSpent}
 
 -- ---- guards
 
@@ -62,6 +62,28 @@ GuardsEndTheRun =
     → ComesToTurn site at (at + size (guard_code unit x.pc)) 1 most_turns
     (whole_weight order (guard_code unit x.pc)) (EndsSpent x.pc) (stands site at w)
 
+-- Code stops within so many instructions where it ends the run in the fault of a spent meter at an address. Until then it has changed nothing but
+-- the stack.
+pub record StopsSpent (program : Program) (words : ℕ) (code : List Step) (w : Workspace)
+    (at : Address) : Type 0 where
+  pub turns : ℕ
+  pub step : ℕ
+  pub some : 1 ≤ turns
+  pub in_time : turns + 1 ≤ most_turns
+  pub comes : outcome program words code w
+      ≡ stopped turns step (with_spent w at) (faults (spent_fault at))
+
+-- So the guard stops there.
+abbrev pub GuardsStopSpent : Type 0
+GuardsStopSpent =
+    (unit : Unit) (program : Program) (words : ℕ) (known : ℕ → Bool) (w : Workspace) (x : State)
+    (left : ℕ) (at : Address)
+    → KnownByUnit known unit
+    → HoldsOn 0 known w x
+    → HasLeft left w
+    → left < unit_turn_count unit x
+    → StopsSpent program words (guard_code unit at) w at
+
 -- ---- code that takes off a number of turns that is known
 
 abbrev pub CountedCodeIsPaid : Type 0
@@ -79,8 +101,7 @@ CountedCodeEnds =
     → HasLeft left w
     → left < turns
     → outcome program words (counted_code turns at) w
-    ≡ stopped 6 6 (with_operands w (int 0 ∷ int at ∷ int spent_kind ∷ w.operands))
-    (faults (spent_fault at))
+    ≡ stopped 6 6 (with_spent w at) (faults (spent_fault at))
 
 -- ---- what guards count
 
