@@ -17,12 +17,11 @@ use Rattle.emit_steps.specs.Widths.{bytes_before}
 use Rattle.emit_steps.specs.Outcomes.{Outcome, ended, outcome, outcome_from, left, stopped}
 use Rattle.emit_steps.specs.Placing.{LiesAt}
 use Rattle.emit_layout.specs.FieldNumbers.{pc_field}
-use Rattle.meter.specs.Guards.{spent_kind}
 use Rattle.trampoline.specs.declared.start.Start.{Start}
 use Rattle.trampoline.specs.Trees.{tree}
 use Rattle.trampoline.specs.Choosers.{class_chooser, main_chooser, missing_code, metered_missing_code}
 use Rattle.emit_paths_laws.specs.Paths.{Path}
-use Rattle.meter_laws.specs.Meters.{HasLeft, spent_fault}
+use Rattle.meter_laws.specs.Meters.{HasLeft, spent_fault, with_spent}
 use Rattle.trampoline_laws.specs.Choosing.{AreStarts, IsMethod, IsReached, IsWithin, Rise, chosen}
 use Rattle.trampoline_laws.specs.Weights.{beside_calls, turns_of}
 
@@ -136,10 +135,6 @@ MeteredStraysFault =
     → HasLeft left w
     → 1 ≤ left
     → Stops program words 13 metered_missing_code w (with_stray w x) (faults (stray_fault x))
-
--- the kind, the pc and the value of the fault of a spent meter on the stack
-abbrev pub with_spent : Workspace → Address → Workspace
-with_spent w x = with_operands w (int 0 ∷ int x ∷ int spent_kind ∷ w.operands)
 
 -- Where none is left, it ends the run in the fault of a spent meter at the address.
 abbrev pub SpentStraysEnd : Type 0

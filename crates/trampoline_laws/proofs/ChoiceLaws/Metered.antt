@@ -13,9 +13,9 @@ use Rattle.emit_steps.specs.Outcomes.{Outcome, stopped, later, after_branch, out
 use Rattle.emit_layout.specs.FieldNumbers.{pc_field}
 use Rattle.emit_instructions.specs.Access.{push_word, get_field}
 use Rattle.meter.specs.Guards.{spent_kind}
-use Rattle.meter_laws.specs.Meters.{HasLeft, spent_fault}
+use Rattle.meter_laws.specs.Meters.{HasLeft, spent_fault, with_spent}
 use Rattle.trampoline.specs.Choosers.{missing_code, metered_missing_code}
-use Rattle.trampoline_laws.specs.Coming.{Stops, stray_fault, with_stray, with_spent}
+use Rattle.trampoline_laws.specs.Coming.{Stops, stray_fault, with_stray}
 use Rattle.trampoline_laws.proofs.ChoiceLaws.Passing.{more, passed, executed}
 use Rattle.trampoline_laws.proofs.ChoiceLaws.Choosers.{stray-faults}
 
