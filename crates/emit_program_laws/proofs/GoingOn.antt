@@ -37,6 +37,25 @@ none-marked classes = record {
   begin = λ s n c j k e there below first end at. absurd (false≢true e);
 }
 
+-- Where the method is entered above a frame, they rest, with a meter or without.
+pub rests-above : (program : Program) (words : ℕ) (order : Order) (choose : ℕ) (classes : List CodeClass) (code : ℕ → Option ℕ) (below : Frame) (fields : ℕ → Value) (heap : Heap) (t : guest.State) → HoldsGuest order code choose fields heap t → Rests program words order choose classes code t (above below (entered_over choose fields heap))
+rests-above program words order choose classes code below fields heap t h =
+    let at_choose : AtChoose choose (above below (entered_over choose fields heap)) t = record {
+      at_start = below;
+      stands = record {
+        workspace = work_over choose fields heap;
+        held = h.held;
+        no_operands = refl;
+        pc_is = h.pc_is;
+        is_there = refl;
+      };
+    } in
+    record {
+      guest_is = h.guest_is;
+      pc_word = h.pc_word;
+      stands = inr (inr (inr at_choose));
+    }
+
 module _ (turns : TurnsAreFollowed) (program : Program) (words : ℕ) (order : Order) (choose missing : ℕ) (classes : List CodeClass) (code : ℕ → Option ℕ) (is : IsTranslated false program order choose missing classes code) where
   abbrev machines : Pair guest.State JvmState Counted
   machines = pair program words classes unmarked
@@ -54,31 +73,12 @@ module _ (turns : TurnsAreFollowed) (program : Program) (words : ℕ) (order : O
     back = λ m. (compared machines next_answer Resting 512 law (λ k l q a. next_fits k l q a) m m m (omega arith) t y answers rests).back (omega arith);
   }
 
-  -- where the method is entered above a frame
-  rests-above : (below : Frame) (fields : ℕ → Value) (heap : Heap) (t : guest.State) → HoldsGuest order code choose fields heap t → Resting t (above below (entered_over choose fields heap))
-  rests-above below fields heap t h =
-      let at_choose : AtChoose choose (above below (entered_over choose fields heap)) t = record {
-        at_start = below;
-        stands = record {
-          workspace = work_over choose fields heap;
-          held = h.held;
-          no_operands = refl;
-          pc_is = h.pc_is;
-          is_there = refl;
-        };
-      } in
-      record {
-        guest_is = h.guest_is;
-        pc_word = h.pc_word;
-        stands = inr (inr (inr at_choose));
-      }
-
   goes-on : (fields : ℕ → Value) (heap : Heap) (t : guest.State) (answers : List Answer) → HoldsGuest order code choose fields heap t → SameRuns guest_step.turn (jvm_turn program words) next_answer (λ n. 512 * n) t (entered_over choose fields heap) answers
   goes-on fields heap t answers h =
       let frame = some-nowhere program in
       followed-without guest_step.turn next_answer program words (λ n. 512 * n) frame.0 (entered_over choose fields heap) t answers frame.1
       (λ n trap. guest-untrapped next_answer n trap t answers)
-      (same-from-rest t (above frame.0 (entered_over choose fields heap)) answers (rests-above frame.0 fields heap t h))
+      (same-from-rest t (above frame.0 (entered_over choose fields heap)) answers (rests-above program words order choose classes code frame.0 fields heap t h))
 
 pub programs-go-on : TurnsAreFollowed → EnteredProgramsGoOn
 programs-go-on turns program words order choose missing classes code fields heap t answers is h =

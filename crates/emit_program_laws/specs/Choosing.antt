@@ -15,7 +15,7 @@ use Rattle.trampoline_laws.specs.Programs.{IsTranslated}
 use Rattle.emit_loading_laws.specs.Made.{HasBegun}
 use Rattle.emit_program_laws.specs.Going.{ComesTo}
 use Rattle.emit_program_laws.specs.Entered.{IsGuest}
-use Rattle.emit_program_laws.specs.Standing.{IsStray, AtChoose, AtRun, AtWord, AtReturn, AtMissing, EndsStray, EndsSpent}
+use Rattle.emit_program_laws.specs.Standing.{IsStray, AtChoose, AtRun, AtWord, AtReturn, AtMissing, HoldsAtMissing, EndsStray, EndsSpent, HasStateOf}
 
 -- ---- from the methods that choose
 
@@ -26,10 +26,10 @@ ComesToWord program words order choose classes t y =
     ComesTo program words (is_span classes) 150 0 1
     (λ z. AtWord program words order classes choose z t) y
 
--- They come to the method for addresses outside all code, and count nothing.
-abbrev pub ComesToMissing : Program → ℕ → List CodeClass → ℕ → Address → JvmState → Type 0
-ComesToMissing program words classes missing a y =
-    ComesTo program words (is_span classes) 70 0 0 (AtMissing missing a) y
+-- They come to the method for addresses outside all code, hold the guest's state there, and count nothing.
+abbrev pub ComesToMissing : Program → ℕ → List CodeClass → ℕ → guest.State → JvmState → Type 0
+ComesToMissing program words classes missing t y =
+    ComesTo program words (is_span classes) 70 0 0 (HoldsAtMissing missing t) y
 
 -- Where they go from the beginning of a method that chooses, by the guest's address.
 pub record ChoosesWords (program : Program) (words : ℕ) (order : Order) (choose missing : ℕ)
@@ -47,11 +47,11 @@ pub record ChoosesWords (program : Program) (words : ℕ) (order : Order) (choos
   pub stray_choose : (t : guest.State) (y : JvmState)
       → IsStray code t.pc → IsWord t.pc
       → AtChoose choose y t
-      → ComesToMissing program words classes missing t.pc y
+      → ComesToMissing program words classes missing t y
   pub stray_run : (t : guest.State) (y : JvmState)
       → IsStray code t.pc → IsWord t.pc
       → AtRun program words classes choose y t
-      → ComesToMissing program words classes missing t.pc y
+      → ComesToMissing program words classes missing t y
 
 -- So it is in each translated program, with a meter or without.
 abbrev pub ChoosersLeadToWords : Type 0
@@ -83,7 +83,7 @@ MeteredStraysEnd =
     → 1 ≤ left
     → ComesTo program words (is_span classes) 13 0 0 (EndsStray program words a) y
 
--- Where none is left, they come to the fault of a spent meter at the address.
+-- Where none is left, they come to the fault of a spent meter at the address, and fields and arrays are as they were.
 abbrev pub SpentStraysEnd : Type 0
 SpentStraysEnd =
     (program : Program) (words : ℕ) (order : Order) (choose missing : ℕ)
@@ -91,7 +91,8 @@ SpentStraysEnd =
     → IsTranslated true program order choose missing classes code
     → (s : AtMissing missing a y)
     → HasLeft 0 s.workspace
-    → ComesTo program words (is_span classes) 6 0 0 (EndsSpent program words a) y
+    → ComesTo program words (is_span classes) 6 0 0
+    (λ z. EndsSpent program words a z × HasStateOf s.workspace z) y
 
 -- Where no word can be fetched, the guest's run ends in that same fault.
 abbrev pub GuestsStray : Type 0

@@ -123,6 +123,11 @@ pub record AtMissing (missing : ℕ) (a : Address) (y : JvmState) : Type 0 where
   pub pc_is : workspace.fields pc_field ≡ int a
   pub is_there : y ≡ frame_placed missing 0 workspace others
 
+-- They hold the guest's state there, too.
+pub record HoldsAtMissing (missing : ℕ) (t : guest.State) (y : JvmState) : Type 0 where
+  pub there : AtMissing missing t.pc y
+  pub held : HoldsAll there.workspace t
+
 -- the next turn ends the run in the fault of an address from which no word can be fetched
 abbrev pub EndsStray : Program → ℕ → Address → JvmState → Type 0
 EndsStray program words a y = jvm_turn program words y ≡ ends («fault» (stray_fault a))
@@ -130,3 +135,7 @@ EndsStray program words a y = jvm_turn program words y ≡ ends («fault» (stra
 -- it ends the run in the fault of a spent meter at that address
 abbrev pub EndsSpent : Program → ℕ → Address → JvmState → Type 0
 EndsSpent program words a y = jvm_turn program words y ≡ ends («fault» (spent_fault a))
+
+-- fields and arrays are those of a workspace
+abbrev pub HasStateOf : Workspace → JvmState → Type 0
+HasStateOf w y = (y.fields ≡ w.fields) × (y.heap ≡ w.heap)

@@ -15,7 +15,7 @@ use trampoline_laws::laws::{
 
 /// From the beginning of a method that chooses, the classes come to the code of the word at which the guest is:
 /// they read nothing, and make one entry and one switch at most. If no word can be fetched, they come to the method
-/// for addresses outside all code, and count nothing. Either takes at most 150 turns.
+/// for addresses outside all code, hold the guest's state there, and count nothing. Either takes at most 150 turns.
 pub fn choosers_lead_to_words()
     ensures { ChoosersLeadToWords }
 {
@@ -41,7 +41,7 @@ pub fn choosers_lead_to_words()
 }
 
 /// From there they come to the fault of an address from which no word can be fetched, with a meter where a turn is left, and otherwise to the fault of a
-/// spent meter.
+/// spent meter, with fields and arrays as they were.
 pub fn strays_end()
     ensures plain { StraysEnd }
     ensures metered { MeteredStraysEnd }

@@ -26,6 +26,7 @@ use Rattle.emit_paths_laws.proofs.Weighing.{weigh-front, weigh-back, weigh-more,
 use Rattle.trampoline_laws.specs.Coming.{Stops, Calls, begins_anew}
 use Rattle.trampoline_laws.specs.Weights.{SparesComparing, beside_calls, turns_of}
 use Rattle.emit_program_laws.specs.Going.{Goes, Waits, with_frame}
+use Rattle.emit_program_laws.specs.Standing.{HasStateOf}
 use Rattle.emit_program_laws.proofs.ChoicePasses.Given.{CodeLaws}
 use Rattle.emit_program_laws.proofs.ChoicePasses.Going.{Spares, Moves, Leads, moves-path, moves-on, goes-so}
 
@@ -143,8 +144,8 @@ module _ (laws : CodeLaws) (program : Program) (words : ℕ) (is_span : ℕ → 
         arrives = refl;
       }
 
-  -- a fault
-  pub fault-comes : (most : ℕ) (w v : Workspace) (f : Fault) (others : List Frame) → Stops program words most code w v (faults f) → Leads program words is_span most 0 0 (λ y. jvm_turn program words y ≡ ends («fault» f)) (frame_placed own 0 w others)
+  -- a fault, and fields and arrays where it comes
+  pub fault-comes : (most : ℕ) (w v : Workspace) (f : Fault) (others : List Frame) → Stops program words most code w v (faults f) → Leads program words is_span most 0 0 (λ y. (jvm_turn program words y ≡ ends («fault» f)) × HasStateOf v y) (frame_placed own 0 w others)
   fault-comes most w v f others stops =
       let way = stop-goes stops.turns stops.step w v (faults f) others stops.comes in
       record {
@@ -152,7 +153,7 @@ module _ (laws : CodeLaws) (program : Program) (words : ℕ) (is_span : ℕ → 
         in_time = stops.in_time;
         after = frame_placed own (0 + bytes_before code stops.step) v others;
         way = way.0;
-        arrives = way.1.turns;
+        arrives = (way.1.turns, (refl, refl));
       }
 
   -- a call, behind which the method is begun anew

@@ -15,7 +15,7 @@ use Rattle.trampoline_laws.specs.Programs.{IsTranslated, TellsSpans}
 use Rattle.emit_program_laws.specs.Going.{ComesTo}
 use Rattle.emit_program_laws.specs.Choosing.{ChoosesWords, ComesToMissing}
 use Rattle.emit_program_laws.specs.Entered.{IsGuest}
-use Rattle.emit_program_laws.specs.Standing.{IsStray, AtChoose, AtMissing, AtRun, AtWord, EndsStray}
+use Rattle.emit_program_laws.specs.Standing.{IsStray, AtChoose, AtRun, AtWord, EndsStray, HoldsAtMissing}
 use Rattle.emit_program_laws.specs.Counted.{Counted, paid, credit, pair}
 use Rattle.emit_program_laws.specs.Rests.{AtUnit, Rests, StandsSomewhere}
 use Rattle.emit_program_laws.specs.Marks.{MarksPieces}
@@ -90,10 +90,10 @@ module _ (unit_laws : UnitLaws) (laws : SpanLaws) (program_laws : ProgramLaws) (
   leads = program_laws.lead false program words order choose missing classes code is_in
 
   -- outside all code to the end of the run
-  to-end : (a : ℕ) (y : JvmState) → ComesToMissing program words classes missing a y → ComesTo program words (is_span classes) 80 0 0 (λ z. EndsStray program words a z) y
-  to-end a y c =
-      comes-then program words (is_span classes) 70 10 (AtMissing missing a) (EndsStray program words a) y c
-      (λ z s. program_laws.stray_end program words order choose missing classes code a z is_in s)
+  to-end : (t : guest.State) (y : JvmState) → ComesToMissing program words classes missing t y → ComesTo program words (is_span classes) 80 0 0 (λ z. EndsStray program words t.pc z) y
+  to-end t y c =
+      comes-then program words (is_span classes) 70 10 (HoldsAtMissing missing t) (EndsStray program words t.pc) y c
+      (λ z s. program_laws.stray_end program words order choose missing classes code t.pc z is_in s.there)
 
   -- ---- at the code of a word, or of a unit
 
@@ -158,10 +158,10 @@ module _ (unit_laws : UnitLaws) (laws : SpanLaws) (program_laws : ProgramLaws) (
   rest-turn t y r (inr (inl s)) = follows-wider machines Rest (λ n. 132 * n + 83) turn_limit (λ n. omega arith) t y (unit-turn t y r.guest_is s)
   rest-turn t y r (inr (inr (inl s))) =
       chooses-by t y r.guest_is (code t.pc) refl (λ i. run-credit i t y s) (λ w is. leads.from_run t w y r.guest_is is r.pc_word s)
-      (λ stray. to-end t.pc y (leads.stray_run t y stray r.pc_word s))
+      (λ stray. to-end t y (leads.stray_run t y stray r.pc_word s))
   rest-turn t y r (inr (inr (inr s))) =
       chooses-by t y r.guest_is (code t.pc) refl (λ i. choose-credit i t y s) (λ w is. leads.from_choose t w y r.guest_is is s)
-      (λ stray. to-end t.pc y (leads.stray_choose t y stray r.pc_word s))
+      (λ stray. to-end t y (leads.stray_choose t y stray r.pc_word s))
 
   pub turns-followed : LawOfTurn machines Rest 512
   turns-followed t y r = rest-turn t y r r.stands
