@@ -1,7 +1,7 @@
 pub mod Given
 pub mod Left
 pub mod Spending
-pub mod Openings
+pub mod Later
 pub mod Uncounted
 pub mod Words
 pub mod Strays

@@ -3,4 +3,5 @@
 
 pub mod field_laws;
 pub mod laws;
+pub mod slice_laws;
 pub mod turn_laws;

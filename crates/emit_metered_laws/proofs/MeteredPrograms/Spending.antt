@@ -21,7 +21,7 @@ pub record EndsAtUnit (x : State) (left : ℕ) : Type 0 where
   pub comes : advanced turn left x ≡ Some at
   pub ends_so : spent at ≡ «fault» (spent_fault x.pc)
 
-at-unit : (x : State) → x.pending ≡ None → spent x ≡ «fault» (spent_fault x.pc)
+pub at-unit : (x : State) → x.pending ≡ None → spent x ≡ «fault» (spent_fault x.pc)
 at-unit x none = ap (λ pending. «fault» (spent_fault (unit_address pending x.pc))) none
 
 pub ends-at-unit : (x : State) (turns : UnitTurns) (left : ℕ) → x.pending ≡ None → x.pc + 4 < 2 ^ 32 → AreMade x turns → GoesThroughSlot x turns → left < turn_count turns → EndsAtUnit x left

@@ -8,24 +8,15 @@ use Rattle.run_simulation_laws.specs.Turns.{Alike, ComesToRest, Follows, Pair, S
 use Rattle.run_simulation_laws.proofs.Passing.{advanced_add, first_move}
 use Rattle.run_simulation_laws.proofs.Reaching.{advanced_less}
 use Rattle.mips_definition.specs.State as guest
-use Rattle.mips_definition.specs.Step as guest_step
 use Rattle.jvm_definition.specs.declared.instruction.Instruction.{Instruction}
 use Rattle.jvm_definition.specs.Program.{Program}
 use Rattle.jvm_definition.specs.Step.{JvmState, jvm_turn}
 use Rattle.emit_simulation_laws.specs.Following.{ComesToTurn}
 use Rattle.emit_simulation_laws.specs.Sites.{Site, turn_in}
 use Rattle.emit_spans_laws.specs.Resuming.{ComesTo, ComesToByAnswers, FollowsInSpan, LastInSpan}
+use Rattle.emit_metered_laws.specs.Spending.{uncounted}
 use Rattle.emit_program_laws.proofs.TurnLaws.Following.{ForEach}
 use Rattle.emit_program_laws.proofs.TurnLaws.Turning.{HasTurns}
-
--- the guest machine and the classes of a program, of which nothing is counted
-abbrev pub uncounted : Program → ℕ → Pair guest.State JvmState ⊥
-uncounted program words = record {
-  guest = guest_step.turn;
-  classes = jvm_turn program words;
-  tally = λ i. absurd i;
-  marked = λ s. false;
-}
 
 -- no state of the guest is marked
 abbrev pub unmarked : guest.State → Bool

@@ -1,34 +1,35 @@
 -- At the code of a word the classes follow the guest with its meter.
-use Rattle.std.proofs.Common.{◌≡◌, ℕ, zero, suc, ◌+◌, ◌-◌, ◌*◌, ◌<◌, ◌≤◌, ◌⊎◌, inl, inr, true, false, not, ◌&&◌, ◌||◌, ◌==◌, List, length, slice_get, Option, Some, refl, ap, sym, subst, ◌∙◌, arith}
+use Rattle.std.proofs.Common.{◌≡◌, ℕ, ◌+◌, ◌-◌, ◌*◌, ◌<◌, ◌≤◌, ◌⊎◌, inl, inr, true, false, not, ◌&&◌, ◌||◌, ◌==◌, List, length, slice_get, Option, Some, refl, ap, sym, subst, ◌∙◌, arith}
 use Rattle.std.proofs.lemmas.Bool.{cases_lt, false≢true}
 use Rattle.run_definition.specs.Words.{IsWord}
 use Rattle.run_definition.specs.declared.order.Order.{Order}
 use Rattle.run_definition.specs.Turn.{ends, «fault»}
 use Rattle.run_simulation_laws.specs.Trail.{advanced}
-use Rattle.run_simulation_laws.specs.Pairs.{FollowsByMeter}
-use Rattle.run_simulation_laws.proofs.Paying.{not-paid, paid, paid-before}
 use Rattle.mips_definition.specs.State as guest
-use Rattle.mips_definition.specs.Step as guest_step
 use Rattle.delay_slots.specs.declared.unit.Unit.{Unit}
 use Rattle.delay_slots.specs.Units.{units_of}
 use Rattle.delay_slots.specs.Turns as delay
 use Rattle.delay_slots.specs.Turns.{HasRange, IsBetweenUnits, UnitTurns, last_turn, turn_count, unit_turn_count, unit_turns}
 use Rattle.block_builder.specs.Blocks.{unit_at}
 use Rattle.jvm_definition.specs.Program.{Program}
-use Rattle.jvm_definition.specs.Effect.{Workspace}
-use Rattle.jvm_definition.specs.Step.{Frame, JvmState, jvm_turn}
+use Rattle.jvm_definition.specs.Effect.{Workspace, faults}
+use Rattle.jvm_definition.specs.Step.{Frame, JvmState}
 use Rattle.emit_steps.specs.declared.step.Step.{Step}
 use Rattle.emit_steps.specs.Placing.{LiesAt}
-use Rattle.emit_steps.specs.Widths.{size}
+use Rattle.emit_steps.specs.Outcomes.{stopped}
+use Rattle.emit_steps.specs.Widths.{bytes_before, size}
 use Rattle.emit_spans.specs.declared.span_words.SpanWords.{SpanWords}
 use Rattle.emit_spans.specs.Neighbours.{address}
 use Rattle.emit_spans.specs.Parts.{front_of, unit_part}
 use Rattle.emit_spans.specs.Pieces.{begins}
 use Rattle.emit_spans.specs.Standing.{unit_entry}
-use Rattle.emit_simulation_laws.specs.Following.{ComesToEnd, ComesToTurn}
+use Rattle.emit_paths_laws.specs.Paths.{PathWithin}
+use Rattle.emit_simulation_laws.specs.Following.{ComesToEnd}
 use Rattle.emit_simulation_laws.specs.Sites.{Site, stands, turn_in, whole_weight}
+use Rattle.emit_simulation_laws.proofs.GuestFollows.Outcomes.{goes, here as here-at}
 use Rattle.meter.specs.Guards.{guard_code, left_field}
-use Rattle.meter_laws.specs.Meters.{EndsSpent, HasLeft, leaving, spent_fault}
+use Rattle.meter_laws.specs.Laws.{StopsSpent}
+use Rattle.meter_laws.specs.Meters.{HasLeft, leaving, spent_fault, with_spent}
 use Rattle.emit_instructions_laws.specs.Steps.{GoesThroughSlot}
 use Rattle.emit_spans_laws.specs.Following.{UnitIsFollowedBehindFront}
 use Rattle.emit_spans_laws.specs.Resuming.{FollowsInSpan, Resumes}
@@ -44,26 +45,19 @@ use Rattle.emit_program_laws.proofs.TurnLaws.Guest.{UnitMade, unit-made}
 use Rattle.emit_program_laws.proofs.TurnLaws.Resting.{at-return, each-of, rests-at-run, rests-at-word, unit-there}
 use Rattle.emit_program_laws.proofs.TurnLaws.Spans.{has-span, is-ready, stands-in}
 use Rattle.emit_metered_laws.specs.Metering.{HasLeftIn, RestsByMeter, spent}
+use Rattle.emit_metered_laws.specs.Spending.{Pays, PaysOrSpends, Spends, uncounted, unit_limit}
 use Rattle.emit_metered_laws.proofs.MeteredPrograms.Given.{BetweenLaws, UnitLaws, WordLaws}
 use Rattle.emit_metered_laws.proofs.MeteredPrograms.Left.{left-then, left-there}
-use Rattle.emit_metered_laws.proofs.MeteredPrograms.Openings.{no-guard}
-use Rattle.emit_metered_laws.proofs.MeteredPrograms.Spending.{EndsAtUnit, ends-at-unit}
-use Rattle.emit_metered_laws.proofs.MeteredPrograms.Uncounted.{FollowsFor, Settles, paths-follow, uncounted, unmarked}
-
--- how many turns of the classes a word's unit may take behind its guard, and with it
-abbrev pub unit_limit : ℕ → ℕ
-unit_limit n = 264 * n + 13
-
-abbrev pub word_limit : ℕ → ℕ
-word_limit n = 264 * n + 25
+use Rattle.emit_metered_laws.proofs.MeteredPrograms.Spending.{EndsAtUnit, at-unit, ends-at-unit}
+use Rattle.emit_metered_laws.proofs.MeteredPrograms.Uncounted.{FollowsFor, Settles, paths-follow, unmarked}
 
 module _ (unit_laws : UnitLaws) (laws : WordLaws) (between : BetweenLaws) (program : Program) (words : ℕ) (order : Order) (choose missing : ℕ) (classes : List CodeClass) (code : ℕ → Option ℕ) (is_in : IsTranslated true program order choose missing classes code) where
   abbrev Rest : ℕ → guest.State → JvmState → Type 0
   Rest = RestsByMeter program words order choose classes code
 
-  -- the classes follow the guest with so much on its meter
-  abbrev pub FollowsFrom : (ℕ → ℕ) → ℕ → guest.State → JvmState → Type 0
-  FollowsFrom limit left t y = FollowsByMeter guest_step.turn (jvm_turn program words) spent Rest limit left t y
+  -- they follow the guest's turns, or end as a spent meter does
+  abbrev pub Comes : ℕ → ℕ → guest.State → JvmState → Type 0
+  Comes most left t y = PaysOrSpends program words Rest most left t y
 
   -- ---- a span of a class
 
@@ -222,16 +216,6 @@ module _ (unit_laws : UnitLaws) (laws : WordLaws) (between : BetweenLaws) (progr
               (last_turn turns) refl each
               (subst (λ n. FollowsInSpan site behind (behind + size (unit_part all c.leads own k)) n (264 * turn_count turns) (whole_weight order (unit_part all c.leads own k)) Behind (stands site behind paid_off) (last_turn turns)) (sym count) in-span)
 
-          unit-paid : FollowsFrom unit_limit left x (stands site behind paid_off)
-          unit-paid =
-              let f = unit-follows in
-              let first = f.turns in
-              let count = made.count in
-              let same = own-count in
-              let all_turns : f.follows.guest_turns + 1 + then ≡ left = omega (arith, first, count, same, least) in
-              subst (λ n. FollowsFrom unit_limit n x (stands site behind paid_off)) all_turns
-              (paid (uncounted program words) spent Rest then unit_limit x (stands site behind paid_off) f.follows)
-
           -- behind the guard
           abbrev GuardEnds : Type 0
           GuardEnds = ComesToEnd site entry guard_end 1 12 (whole_weight order (guard_code unit x.pc)) (λ v. v ≡ paid_off) (stands site entry w)
@@ -239,13 +223,23 @@ module _ (unit_laws : UnitLaws) (laws : WordLaws) (between : BetweenLaws) (progr
           guard-ends : GuardEnds
           guard-ends = laws.paid unit site order (λ r. true) entry w x left guard-lies here.unit.has.knows s.rests.held has least
 
-          pub word-paid : FollowsFrom word_limit left x (stands site entry w)
-          word-paid =
+          word-pays : Pays program words Rest 12 left x (stands site entry w)
+          word-pays =
               let e = guard-ends in
-              let in_time = e.in_time in
+              let f = unit-follows in
+              let first = f.turns in
+              let count = made.count in
+              let same = own-count in
               let there_is : stands site guard_end e.after ≡ stands site behind paid_off = ap (λ v. stands site guard_end v) e.arrives ∙ ap (λ at. stands site at paid_off) (sym behind-is) in
-              paid-before guest_step.turn (jvm_turn program words) spent Rest unit_limit word_limit e.turns left x (stands site entry w) (stands site behind paid_off)
-              (e.path.comes ∙ ap (λ (z : JvmState). Some z) there_is) unit-paid (λ n. omega (arith, in_time))
+              record {
+                first = e.turns;
+                first_few = e.in_time;
+                there = stands site behind paid_off;
+                comes = e.path.comes ∙ ap (λ (z : JvmState). Some z) there_is;
+                remain = then;
+                follows = f.follows;
+                taken_off = omega (arith, first, count, same, least);
+              }
 
         -- ---- too few are left
 
@@ -258,43 +252,53 @@ module _ (unit_laws : UnitLaws) (laws : WordLaws) (between : BetweenLaws) (progr
               let within = in-range in
               ends-at-unit x turns left guest_is.pending (omega (arith, own_pc, range, within)) own-turns slot (omega (arith, own_is, less))
 
-          abbrev GuardSpent : Type 0
-          GuardSpent = ComesToTurn site entry guard_end 1 12 (whole_weight order (guard_code unit x.pc)) (EndsSpent x.pc) (stands site entry w)
+          guard-stops : StopsSpent program words (guard_code unit x.pc) w x.pc
+          guard-stops = laws.unpaid unit program words (λ r. true) w x left x.pc here.unit.has.knows s.rests.held has less
 
-          guard-spent : GuardSpent
-          guard-spent = laws.unpaid unit site order (λ r. true) entry w x left guard-lies here.unit.has.knows s.rests.held has less
+          -- the guard is a path to where it ends the run
+          abbrev place : ℕ
+          place = bytes_before (guard_code unit x.pc) guard-stops.step
 
-          -- the guard makes a turn before it ends the run
-          some-turn : (n : ℕ) (before : JvmState) → advanced (turn_in site) n (stands site entry w) ≡ Some before → turn_in site before ≡ ends («fault» (spent_fault x.pc)) → 1 ≤ n
-          some-turn zero before comes ends_so =
-              let same : stands site entry w ≡ before = cc in
-              absurd (no-guard program words site.method entry w others (spent_fault x.pc) (ap (turn_in site) same ∙ ends_so) unit x.pc guard-lies)
-          some-turn (suc n) before comes ends_so = omega arith
+          path : PathWithin program words site.method entry 0 (guard_code unit x.pc) others (stands site (entry + 0) w) (stopped guard-stops.turns guard-stops.step (with_spent w x.pc) (faults (spent_fault x.pc)))
+          path = goes laws.paths site order entry (guard_code unit x.pc) guard-lies 0 w (stopped guard-stops.turns guard-stops.step (with_spent w x.pc) (faults (spent_fault x.pc))) guard-stops.comes
 
-          pub word-spent : FollowsFrom word_limit left x (stands site entry w)
-          word-spent =
-              let e = guard-spent in
-              let last : turn_in site e.before ≡ ends («fault» (spent_fault x.pc)) = e.last in
-              let some = some-turn e.turns e.before e.path.comes last in
-              let in_time = e.in_time in
+          word-spends : Spends program words 12 left x (stands site entry w)
+          word-spends =
+              let some = guard-stops.some in
               let few = at_unit.few in
-              not-paid guest_step.turn (jvm_turn program words) spent Rest word_limit left e.turns x at_unit.at (stands site entry w) e.before at_unit.comes e.path.comes
-              (last ∙ ap (λ z. ends z) (sym at_unit.ends_so)) (omega (arith, some, few)) (omega (arith, in_time))
+              let before = stands site (entry + place) (with_spent w x.pc) in
+              let own_end : spent x ≡ «fault» (spent_fault x.pc) = at-unit x guest_is.pending in
+              record {
+                turns = guard-stops.turns;
+                in_time = guard-stops.in_time;
+                before = before;
+                comes = subst (λ at. advanced (turn_in site) guard-stops.turns (stands site at w) ≡ Some before) (here-at entry) path.0.comes;
+                ends_so = path.1.turns ∙ ap (λ z. ends z) (sym own_end);
+                holds = record {
+                  held = λ v is. between.held w v x (sym is.0) (sym is.1) s.rests.held;
+                  left_is = record { field = has.0; small = has.1 };
+                };
+                few = few;
+                guest_at = at_unit.at;
+                guest_comes = at_unit.comes;
+                same_unit = at_unit.ends_so ∙ sym own_end;
+                no_sooner = omega (arith, some, few);
+              }
 
-        pub word-follows : FollowsFrom word_limit left x (stands site entry w)
-        word-follows = by_case (cases_lt left (unit_turn_count unit x))
+        pub word-comes : Comes 12 left x (stands site entry w)
+        word-comes = by_case (cases_lt left (unit_turn_count unit x))
           where
-            by_case : (left < unit_turn_count unit x) ⊎ (unit_turn_count unit x ≤ left) → FollowsFrom word_limit left x (stands site entry w)
-            by_case (inl less) = word-spent less
-            by_case (inr least) = word-paid least
+            by_case : (left < unit_turn_count unit x) ⊎ (unit_turn_count unit x ≤ left) → Comes 12 left x (stands site entry w)
+            by_case (inl less) = inr (word-spends less)
+            by_case (inr least) = inl (word-pays least)
 
   -- ---- where the classes stand at the code of a word
 
-  pub word-turn : (left : ℕ) (t : guest.State) (y : JvmState) → IsGuest order code t → HasLeftIn left y → AtWord program words order classes choose y t → FollowsFrom word_limit left t y
+  pub word-turn : (left : ℕ) (t : guest.State) (y : JvmState) → IsGuest order code t → HasLeftIn left y → AtWord program words order classes choose y t → Comes 12 left t y
   word-turn left t y guest_is has s =
       let w = s.workspace in
       let entry = word_entry s.class s.span s.word in
       let site = span_site program words s.class s.span s.others in
-      subst (FollowsFrom word_limit left t) (sym s.is_there)
-      (word-follows s.number s.class s.there s.span s.span_below s.others s.below t guest_is s.word w s.stands left
+      subst (Comes 12 left t) (sym s.is_there)
+      (word-comes s.number s.class s.there s.span s.span_below s.others s.below t guest_is s.word w s.stands left
       (left-there left site.method entry w s.others y s.is_there has))
