@@ -10,10 +10,12 @@ use Rattle.jvm_definition.specs.Typing.{no_top}
 use Rattle.stackmap_table.specs.declared.reference_slots.ReferenceSlots.{ReferenceSlots}
 use Rattle.stackmap_table.specs.declared.table_frame.TableFrame.{TableFrame}
 use Rattle.stackmap_table.specs.declared.table_frame.TableFrame.TheVariants.{Same, SameWithOperand, SameWithOperandExtended, Chop, SameExtended, Append, Full}
+use Rattle.stackmap_table.specs.Forms.{IsShortestForm}
+use Rattle.stackmap_table.specs.declared.form.Form.TheVariants as forms
 use Rattle.stackmap_table.specs.Meaning.{table_kind}
 use Rattle.stackmap_table.specs.Shortest.{AreReferences, GivesShortest, NoOther, written_type, has_no_long}
 use Rattle.stackmap_table.proofs.ShortLaws.{same-least, operand-least, extended-operand-least, delta-least, append-least, full-least}
-use Rattle.stackmap_table.proofs.GivesLaws.{AreWide, kinds-written, gives-same, gives-extended, gives-operand, gives-operand-extended, gives-chop, gives-append, gives-full}
+use Rattle.stackmap_table.proofs.GivesLaws.{AreWide, wide-slots-of, kinds-written, gives-same, gives-extended, gives-operand, gives-operand-extended, gives-chop, gives-append, gives-full}
 
 -- ---- no other form
 
@@ -96,3 +98,9 @@ module _ (pool : List Entry) (slots : ReferenceSlots) (refs : AreReferences pool
   chosen-full few few-operands short typed alone =
       full-least pool before ls stack d d (map (written_type slots) ls) (reverse (map (written_type slots) stack)) alone
       (gives-full pool slots refs wide before ls stack d small (omega (arith, few)) (omega (arith, few-operands)) short typed)
+
+-- ---- the form alone
+
+pub form-full : (before ls stack : List Kind) → length ls ≤ 65535 → length stack ≤ 65535 → has_no_long ls ≡ true → no_top stack ≡ true → NoOther before ls stack → IsShortestForm before ls stack forms.Full
+form-full before ls stack few few-operands short typed alone pool slots delta refs small =
+    chosen-full pool slots refs (wide-slots-of pool slots refs) before ls stack delta (omega (arith, small)) few few-operands short typed alone

@@ -103,7 +103,7 @@ pub short-behind : (ks os : List Kind) → has_no_long (ks ++ os) ≡ true → h
 short-behind [] os h = h
 short-behind (k ∷ ks) os h = short-behind ks os (first-local k (ks ++ os) h).1
 
-map-reversed : {A B : Type 0} (f : A → B) (xs : List A) → map f (reverse xs) ≡ reverse (map f xs)
+pub map-reversed : {A B : Type 0} (f : A → B) (xs : List A) → map f (reverse xs) ≡ reverse (map f xs)
 map-reversed f [] = refl
 map-reversed f (x ∷ xs) =
     ap (map f) (reverse-append (x ∷ []) xs) ∙ (map-append f (reverse xs) (x ∷ []) ∙ (ap (λ zs. zs ++ f x ∷ []) (map-reversed f xs) ∙ sym (reverse-append (f x ∷ []) (map f xs))))

@@ -7,3 +7,4 @@ pub mod ChosenLaws
 pub mod PrefixLaws
 pub mod TrimLaws
 pub mod WrittenLaws
+pub mod SizedLaws

@@ -21,20 +21,11 @@ use Rattle.stackmap_table.specs.declared.table_frame.TableFrame.TheVariants.{Sam
 use Rattle.stackmap_table.specs.Tables.{bad_table, reference_kind, kind_at, type_at, frame_tag, frame}
 use Rattle.stackmap_table.specs.Meaning.{table_kind, delta_of, locals_of, frame_operands}
 use Rattle.stackmap_table.specs.Shortest.{Gives, GivesShortest, NoOther}
+use Rattle.stackmap_table.specs.Forms.{kind_size, kinds_size}
 use Rattle.stackmap_table.specs.Written.{half, type_bytes, types_bytes, form_bytes, frame_bytes}
 use Rattle.stackmap_table.proofs.SizeLaws.{AllFit, Fitting, IsSized, frame-sized}
 
 -- ---- sizes by types
-
-abbrev kind_size : Kind → ℕ
-kind_size kinds.Ints = 3
-kind_size kinds.Pages = 3
-kind_size kinds.Text = 3
-kind_size _ = 1
-
-abbrev kinds_size : List Kind → ℕ
-kinds_size [] = 0
-kinds_size (k ∷ ks) = kind_size k + kinds_size ks
 
 reference-size : (o : Option (List ℕ)) (k : Kind) → reference_kind o ≡ Some k → kind_size k ≡ 3
 reference-size None k e = absurd (none-some k e)
@@ -74,11 +65,11 @@ types-size : (pool : List Entry) (place : Place) (types : List TableType) → Al
 types-size pool place [] h = refl
 types-size pool place (t ∷ types) h = omega (arith, length-append (type_bytes t) (types_bytes types), type-size pool place t h.0, types-size pool place types h.1)
 
-kinds-append : (ks os : List Kind) → kinds_size (ks ++ os) ≡ kinds_size ks + kinds_size os
+pub kinds-append : (ks os : List Kind) → kinds_size (ks ++ os) ≡ kinds_size ks + kinds_size os
 kinds-append [] os = omega arith
 kinds-append (k ∷ ks) os = omega (arith, kinds-append ks os)
 
-kinds-reverse : (ks : List Kind) → kinds_size (reverse ks) ≡ kinds_size ks
+pub kinds-reverse : (ks : List Kind) → kinds_size (reverse ks) ≡ kinds_size ks
 kinds-reverse [] = refl
 kinds-reverse (k ∷ ks) =
     let e : reverse (k ∷ ks) ≡ reverse ks ++ k ∷ [] = reverse-append (k ∷ []) ks in

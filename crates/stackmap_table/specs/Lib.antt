@@ -3,3 +3,4 @@ pub mod Meaning
 pub mod Last
 pub mod Shortest
 pub mod Written
+pub mod Forms

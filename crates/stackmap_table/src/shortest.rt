@@ -4,8 +4,11 @@ ghost use Rattle.class_definition.specs.declared.entry.Entry.{Entry};
 ghost use Rattle.jvm_definition.specs.declared.kind.Kind.{Kind};
 ghost use Rattle.jvm_definition.specs.Typing.{no_top, same_kind};
 ghost use Rattle.stackmap_table.specs.declared.table_frame.TableFrame.TheVariants.{Same, SameExtended, SameWithOperand, SameWithOperandExtended};
-ghost use Rattle.stackmap_table.specs.Shortest.{AreReferences, GivesShortest, NoOther, has_no_long, written_type};
+ghost use Rattle.stackmap_table.specs.Forms.{AddsFew, IsShortestForm, frame_by};
+ghost use Rattle.stackmap_table.specs.declared.form.Form.TheVariants as forms;
+ghost use Rattle.stackmap_table.specs.Shortest.{AreReferences, GivesShortest, has_no_long, written_type};
 
+use crate::form::Form;
 use crate::reference_slots::ReferenceSlots;
 use crate::table_frame::TableFrame;
 use crate::table_type::TableType;
@@ -29,92 +32,81 @@ pub fn shortest_frame(
     ensures { IfOk result (λ f. (pool : List Entry) → AreReferences pool slots
         → GivesShortest pool before.now delta locals.now stack.now f) }
 {
+    let form = shortest_form(before, locals, stack);
+    frame_of(alloc, slots, delta, locals, stack, form)
+}
+
+/// The form of that frame.
+pub fn shortest_form<'a>(before: &[Kind], locals: &'a [Kind], stack: &[Kind]) -> Form<'a>
+    requires locals { has_no_long locals.now ≡ true }
+    requires few_locals { length locals.now ≤ 65535 }
+    requires operands { no_top stack.now ≡ true }
+    requires few_operands { length stack.now ≤ 65535 }
+    ensures shortest { IsShortestForm before.now locals.now stack.now result }
+    ensures few { AddsFew result }
+{
     if let Some(added) = behind(before, locals) {
-        return grown(alloc, slots, before, delta, locals, stack, added);
+        return grown(before, locals, stack, added);
     }
     match behind(locals, before) {
-        Some(dropped) => shrunk(alloc, slots, before, delta, locals, stack, dropped),
-        None => full(alloc, slots, before, delta, locals, stack),
+        Some(dropped) => shrunk(before, locals, stack, dropped),
+        None => Form::Full,
     }
 }
 
 // Where local variables are dropped.
-fn shrunk(
-    alloc: Global,
-    slots: ReferenceSlots,
-    before: &[Kind],
-    delta: u16,
-    locals: &[Kind],
-    stack: &[Kind],
-    dropped: &[Kind],
-) -> Result<TableFrame, AllocError>
+fn shrunk<'a>(before: &[Kind], locals: &'a [Kind], stack: &[Kind], dropped: &[Kind]) -> Form<'a>
     requires dropped { before.now ≡ locals.now ++ dropped.now }
     requires not_grown { (rest : List Kind) → locals.now ≡ before.now ++ rest → ⊥ }
     requires locals { has_no_long locals.now ≡ true }
     requires few_locals { length locals.now ≤ 65535 }
     requires operands { no_top stack.now ≡ true }
     requires few_operands { length stack.now ≤ 65535 }
-    ensures { IfOk result (λ f. (pool : List Entry) → AreReferences pool slots
-        → GivesShortest pool before.now delta locals.now stack.now f) }
+    ensures shortest { IsShortestForm before.now locals.now stack.now result }
+    ensures few { AddsFew result }
 {
     if !are_few(stack, dropped) {
-        return full(alloc, slots, before, delta, locals, stack);
+        return Form::Full;
     }
-    Ok(TableFrame::Chop(delta, dropped.len() as u8))
+    Form::Chop(dropped.len() as u8)
 }
 
 // Where local variables are added, or none.
-fn grown(
-    alloc: Global,
-    slots: ReferenceSlots,
-    before: &[Kind],
-    delta: u16,
-    locals: &[Kind],
-    stack: &[Kind],
-    added: &[Kind],
-) -> Result<TableFrame, AllocError>
+fn grown<'a>(before: &[Kind], locals: &'a [Kind], stack: &[Kind], added: &'a [Kind]) -> Form<'a>
     requires added { locals.now ≡ before.now ++ added.now }
     requires locals { has_no_long locals.now ≡ true }
     requires few_locals { length locals.now ≤ 65535 }
     requires operands { no_top stack.now ≡ true }
     requires few_operands { length stack.now ≤ 65535 }
-    ensures { IfOk result (λ f. (pool : List Entry) → AreReferences pool slots
-        → GivesShortest pool before.now delta locals.now stack.now f) }
+    ensures shortest { IsShortestForm before.now locals.now stack.now result }
+    ensures few { AddsFew result }
 {
     if added.is_empty() {
-        return unmoved(alloc, slots, before, delta, locals, stack);
+        return unmoved(before, locals, stack);
     }
     if !are_few(stack, added) {
-        return full(alloc, slots, before, delta, locals, stack);
+        return Form::Full;
     }
-    let types = types_of(alloc, slots, added)?;
-    Ok(TableFrame::Append(delta, Sequence::new(types)))
+    Form::Append(added)
 }
 
 // Where the local variables are the same.
-fn unmoved(
-    alloc: Global,
-    slots: ReferenceSlots,
-    before: &[Kind],
-    delta: u16,
-    locals: &[Kind],
-    stack: &[Kind],
-) -> Result<TableFrame, AllocError>
+fn unmoved<'a>(before: &[Kind], locals: &'a [Kind], stack: &[Kind]) -> Form<'a>
     requires same { locals.now ≡ before.now }
     requires locals { has_no_long locals.now ≡ true }
     requires few_locals { length locals.now ≤ 65535 }
     requires operands { no_top stack.now ≡ true }
     requires few_operands { length stack.now ≤ 65535 }
-    ensures { IfOk result (λ f. (pool : List Entry) → AreReferences pool slots
-        → GivesShortest pool before.now delta locals.now stack.now f) }
+    ensures shortest { IsShortestForm before.now locals.now stack.now result }
+    ensures few { AddsFew result }
 {
     let Some((operand, others)) = stack.split_first() else {
-        return Ok(same(delta));
+        return Form::Same;
     };
     if !others.is_empty() {
-        return full(alloc, slots, before, delta, locals, stack);
+        return Form::Full;
     }
-    Ok(same_with_operand(slots, delta, *operand))
+    Form::SameWithOperand(*operand)
 }
 
 // Whether there are no operands, and at most three of some local variables.
@@ -148,22 +140,38 @@ fn same_with_operand(slots: ReferenceSlots, delta: u16, operand: Kind) -> TableF
     }
 }
 
-// The frame that names all local variables and operands, where no other form gives them.
+// The frame of a form that gives local variables and operands.
+fn frame_of(
+    alloc: Global,
+    slots: ReferenceSlots,
+    delta: u16,
+    locals: &[Kind],
+    stack: &[Kind],
+    form: Form<'_>,
+) -> Result<TableFrame, AllocError>
+    ensures { IfOk result (λ f. f ≡ frame_by slots delta locals.now stack.now form.entry) }
+{
+    match form {
+        Form::Same => Ok(same(delta)),
+        Form::SameWithOperand(operand) => Ok(same_with_operand(slots, delta, operand)),
+        Form::Chop(dropped) => Ok(TableFrame::Chop(delta, dropped)),
+        Form::Append(added) => {
+            let types = types_of(alloc, slots, added)?;
+            Ok(TableFrame::Append(delta, Sequence::new(types)))
+        }
+        Form::Full => full(alloc, slots, delta, locals, stack),
+    }
+}
+
+// The frame that names all local variables and operands.
 fn full(
     alloc: Global,
     slots: ReferenceSlots,
-    before: &[Kind],
     delta: u16,
     locals: &[Kind],
     stack: &[Kind],
 ) -> Result<TableFrame, AllocError>
-    requires no_other { NoOther before.now locals.now stack.now }
-    requires locals { has_no_long locals.now ≡ true }
-    requires few_locals { length locals.now ≤ 65535 }
-    requires operands { no_top stack.now ≡ true }
-    requires few_operands { length stack.now ≤ 65535 }
-    ensures { IfOk result (λ f. (pool : List Entry) → AreReferences pool slots
-        → GivesShortest pool before.now delta locals.now stack.now f) }
+    ensures { IfOk result (λ f. f ≡ frame_by slots delta locals.now stack.now forms.Full) }
 {
     let locals = types_of(alloc, slots, locals)?;
     let mut operands = types_of(alloc, slots, stack)?;

@@ -79,14 +79,14 @@ fn append_next(
         bytes.old.items bytes.new.items) }
 {
     let delta = delta_behind(last, next.0);
-    let stack = next.1.stack.as_slice();
-    let frame = shortest_frame(alloc, slots, before, delta, locals, stack)?;
+    let stack = next.1.stack.to_vec(alloc)?;
+    let frame = shortest_frame(alloc, slots, before, delta, locals, stack.as_slice())?;
     append_frame(bytes, &frame)?;
     Ok(())
 }
 
-// By how much an offset is told, behind the last one.
-fn delta_behind(last: Option<u32>, at: u32) -> u16
+/// By how much an offset is told, behind the last one.
+pub fn delta_behind(last: Option<u32>, at: u32) -> u16
     requires near { at < 65535 }
     requires rises { IfSome last (λ l. l < at) }
     ensures first { IfNone last (result ≡ at) }
@@ -98,8 +98,8 @@ fn delta_behind(last: Option<u32>, at: u32) -> u16
     }
 }
 
-// Local variables without those at the end of which nothing is known.
-fn trimmed(locals: &[Kind]) -> &[Kind]
+/// Local variables without those at the end of which nothing is known.
+pub fn trimmed(locals: &[Kind]) -> &[Kind]
     ensures { result.now ≡ trimmed_locals locals.now }
 {
     let mut rest = locals;

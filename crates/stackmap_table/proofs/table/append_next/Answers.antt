@@ -21,7 +21,7 @@ returns c =
     let a = c.args in
     let delta = c.delta_behind-delta.result in
     let frame = c.in_ok-frame.frame in
-    let g = subst (λ s. GivesShortest a.pool.now a.before.now delta a.locals.now s frame) c.as_slice-stack.ensures (c.in_ok-frame.ensures a.pool.now c.requires.references) in
+    let g = subst (λ s. GivesShortest a.pool.now a.before.now delta a.locals.now s frame) (c.as_slice.ensures.value ∙ c.in_ok-stack.ensures) (c.in_ok-frame.ensures a.pool.now c.requires.references) in
     record {
       delta = delta;
       frame = frame;
