@@ -2,7 +2,7 @@
 ghost use Rattle.std.specs.Prelude.{◌≡◌, ◌+◌, ◌<◌, ◌≤◌, ℕ, All, IfOk, IfErr, Some, length, slice_get, slice_index_or, []};
 ghost use Rattle.class_definition.specs.declared.class.Class.{Class};
 ghost use Rattle.class_definition.specs.Linking.{program_of};
-ghost use Rattle.jvm_link.specs.Order.{IsInOrder};
+ghost use Rattle.jvm_code.specs.Order.{IsInOrder};
 ghost use Rattle.jvm_definition.specs.declared.linked_method.LinkedMethod.{LinkedMethod};
 ghost use Rattle.jvm_type_inference.specs.Actions.{program_over};
 ghost use Rattle.frame_maps.specs.Checked as checked;

@@ -12,7 +12,7 @@ ghost use Rattle.jvm_definition.specs.Program as program;
 use crate::way::Way;
 use jvm_definition::{Instruction, LinkedLine};
 use jvm_type_inference::{
-    Code, Frame, KindList, SharedKinds, falls_through, has_no_top, is_frame_below, targets_of,
+    Code, Frame, KindList, SharedKinds, falls_through, is_frame_below, targets_of,
 };
 use std::alloc::{AllocError, Global};
 
@@ -94,7 +94,7 @@ fn arriving<'a>(
 {
     match listed_at(listed, at) {
         Some(frame) => {
-            if flows_below(flowing, frame) && has_no_top(frame.stack.as_slice()) {
+            if flows_below(flowing, frame) && frame.stack.are_typed() {
                 Some(frame)
             } else {
                 None
@@ -128,7 +128,7 @@ fn flowing_frame(flowing: &Option<Frame>) -> Option<&Frame>
         (λ f. Comes None (option_map type_frame flowing.now) (type_frame f.now)) }
 {
     match flowing {
-        Some(frame) if has_no_top(frame.stack.as_slice()) => Some(frame),
+        Some(frame) if frame.stack.are_typed() => Some(frame),
         _ => None,
     }
 }

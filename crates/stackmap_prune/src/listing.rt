@@ -238,7 +238,7 @@ fn frame_for(
         ≡ listing.listed_frame (option_map (λ x. x.now) reached.entry) gives_int before.now) }
 {
     match reached {
-        Some(frame) => frame.copied(alloc),
+        Some(frame) => frame.copied(),
         None => {
             let stack = given_by(alloc, gives_int)?;
             made(alloc, before, &stack)
