@@ -2,6 +2,6 @@ pub mod SizeLaws
 pub mod TableSteps
 pub mod MadeLaws
 pub mod Kept
-pub mod Bounds
 pub mod TypedLaws
 pub mod Steps
+pub mod Within

@@ -15,7 +15,7 @@ use Rattle.class_definition.specs.MemberNames.{slot_text}
 use Rattle.class_names.specs.Kept.{IsClass}
 use Rattle.jvm_definition.specs.declared.linked_method.LinkedMethod.{LinkedMethod}
 use Rattle.jvm_definition.specs.Program.{LaidFrom}
-use Rattle.jvm_link.specs.Order.{IsInOrder}
+use Rattle.jvm_code.specs.Order.{IsInOrder}
 use Rattle.class_definition.specs.Linking.{gives_int, linked_method, linked_methods, program_of}
 use Rattle.jvm_type_inference.specs.declared.frame.Frame.{Frame}
 use Rattle.type_verifier.specs.Refusal.{methods_before}
@@ -62,7 +62,7 @@ take-more (y ∷ xs) (suc i) x e =
     let next : suc i + 1 ≡ suc (i + 1) = omega arith in
     ap (λ k. take k (y ∷ xs)) next ∙ ap (λ zs. y ∷ zs) (take-more xs i x e)
 
-taken-length : {A : Type 0} (xs : List A) (i : ℕ) (x : A) → slice_get xs i ≡ Some x → length (take i xs) ≡ i
+pub taken-length : {A : Type 0} (xs : List A) (i : ℕ) (x : A) → slice_get xs i ≡ Some x → length (take i xs) ≡ i
 taken-length [] i x e = absurd (none-some x e)
 taken-length (y ∷ xs) zero x e = refl
 taken-length (y ∷ xs) (suc i) x e = ap suc (taken-length xs i x e)

@@ -5,6 +5,9 @@ ghost use Rattle.stackmap_maker.specs.Full as full;
 ghost use Rattle.stackmap_maker.specs.Made as made;
 
 use crate::methods::{methods_with_tables, number_of};
+use crate::sized_class::SizedClass;
+use crate::sizes::{MOST, front_size, left, more};
+use crate::tabled_classes::TabledClasses;
 use crate::unmade::Unmade;
 use class_definition::FramedClass;
 use jvm_code::Class;
@@ -13,36 +16,63 @@ use jvm_link::Linked;
 use stackmap_pool::framed_pool;
 use std::alloc::{AllocError, Global};
 
-/// The classes with pruned code, longer pools, and tables. Each method is inferred once, so that what is made shows that all are
-/// typed.
+/// The classes with pruned code, longer pools, and tables, or the first one whose file would be too large. Each method is inferred
+/// once, so that what is made shows that all are typed.
 ///
 /// # Errors
 ///
 /// Untyped: a method is not typed. Full: the first class whose pool has too few slots. NoMemory.
-pub fn classes_with_tables(alloc: Global, linked: &Linked) -> Result<Vec<FramedClass>, Unmade>
-    ensures made { IfOk result (λ framed.
-        made.AreClassesMade linked.now.classes framed.items) }
+pub fn classes_with_tables(alloc: Global, linked: &Linked) -> Result<TabledClasses, Unmade>
+    ensures made { IfOk result (made.AreTabledFor linked.now.classes) }
     ensures unmade { IfErr result (full.IsUnmade linked.now.classes) }
 {
     let classes = linked.classes.as_slice();
     let methods = linked.methods.as_slice();
-    let mut framed = Vec::new(alloc);
+    let mut tabled = TabledClasses::Framed(Vec::new(alloc));
     let mut first = 0;
     for number in 0..classes.len() {
         let class = &classes[number];
         let name = number_of(number)?;
-        let tabled = class_with_tables(alloc, linked, name, first, class)?;
-        add(&mut framed, tabled)?;
+        let room = room_of(&tabled);
+        let sized = class_with_tables(alloc, linked, name, first, class, room)?;
+        tabled = with_class(tabled, name, sized)?;
         first = behind(first, class, methods.len());
     }
-    Ok(framed)
+    Ok(tabled)
 }
 
-fn add(classes: &mut Vec<FramedClass>, class: FramedClass) -> Result<(), AllocError>
-    ensures { OnOk result (classes.new.items ≡ classes.old.items ++ class ∷ []) }
+// How many bytes of a class are written: none once a class is too large.
+fn room_of(tabled: &TabledClasses) -> u64
+    ensures { made.IsRoomOf tabled.now result }
 {
-    classes.push(class)?;
-    Ok(())
+    match tabled {
+        TabledClasses::Framed(_framed) => MOST,
+        TabledClasses::TooLarge { .. } => 0,
+    }
+}
+
+// What becomes of classes and one more, which has a number.
+fn with_class(
+    tabled: TabledClasses,
+    number: u32,
+    class: SizedClass,
+) -> Result<TabledClasses, AllocError>
+    ensures { IfOk result (made.IsWithClass tabled number class) }
+{
+    match tabled {
+        TabledClasses::Framed(framed) => {
+            if MOST < class.bytes {
+                return Ok(TabledClasses::TooLarge {
+                    class: number,
+                    bytes: class.bytes,
+                });
+            }
+            let mut framed = framed;
+            framed.push(class.framed)?;
+            Ok(TabledClasses::Framed(framed))
+        }
+        TabledClasses::TooLarge { class, bytes } => Ok(TabledClasses::TooLarge { class, bytes }),
+    }
 }
 
 // The number of the method behind those of a class, the first of which has a number.
@@ -53,25 +83,29 @@ fn behind(first: usize, class: &Class, count: usize) -> usize
     first + class.methods.as_slice().len()
 }
 
-// A class, whose first method has a number in the program.
+// A class, whose first method has a number in the program. Its tables are written where its file has at most so many bytes.
 fn class_with_tables(
     alloc: Global,
     linked: &Linked,
     number: u32,
     first: usize,
     class: &Class,
-) -> Result<FramedClass, Unmade>
+    most: u64,
+) -> Result<SizedClass, Unmade>
     requires there { slice_get linked.now.classes number ≡ Some class.now }
     requires first { first ≡ methods_before linked.now.classes number }
-    ensures made { IfOk result (made.IsClassMade linked.now.classes number class.now) }
+    ensures made { IfOk result (made.IsClassMadeWithin linked.now.classes number class.now most) }
     ensures unmade { IfErr result (full.IsUnmadeAt linked.now.classes number class.now) }
 {
     let Some(pool) = framed_pool(alloc, class.pool.as_slice())? else {
         return Err(Unmade::Full(number));
     };
-    let Some(tabled) = methods_with_tables(alloc, linked, number, first, class, &pool)? else {
+    let front = front_size(&pool, class.fields.as_slice().len())?;
+    let room = left(most, front);
+    let Some(tabled) = methods_with_tables(alloc, linked, number, first, class, &pool, room)? else {
         return Err(Unmade::Untyped);
     };
+    let bytes = more(front, tabled.bytes)?;
     let fields = Vec::from_slice(alloc, class.fields.as_slice())?;
     let class = Class {
         pool: Sequence::new(pool),
@@ -80,8 +114,9 @@ fn class_with_tables(
         fields: Sequence::new(fields),
         methods: Sequence::new(tabled.methods),
     };
-    Ok(FramedClass {
+    let framed = FramedClass {
         class,
         tables: Sequence::new(tabled.tables),
-    })
+    };
+    Ok(SizedClass { framed, bytes })
 }

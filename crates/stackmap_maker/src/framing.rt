@@ -2,11 +2,10 @@
 ghost use Rattle.std.specs.Prelude.{◌≡◌, ◌≤◌, IfOk, IfErr, All};
 ghost use Rattle.class_definition.specs.Linking.{program_of};
 ghost use Rattle.jvm_type_inference.specs.Verdict.{AllLeastTyped};
-ghost use Rattle.stackmap_maker.specs.Made.{AreClassesMade};
 ghost use Rattle.stackmap_maker.specs.Refusals as refusals;
 ghost use Rattle.stackmap_maker.specs.Sizes as sizes;
 
-use crate::sizes::first_too_large;
+use crate::tabled_classes::TabledClasses;
 use crate::unframed::Unframed;
 use crate::{Unmade, classes_with_tables};
 use class_definition::{FrameFault, FramedClass};
@@ -22,7 +21,7 @@ use type_verifier::Verified;
 ///
 /// # Errors
 ///
-/// Refused, of kind [`POOL`](nv_faults::FrameFault::POOL) and method 0: the first class whose pool has too few slots for these
+/// Refused, of kind [`POOL`](FrameFault::POOL) and method 0: the first class whose pool has too few slots for these
 /// entries. TooLarge: the first class whose file would have more than 67,108,864 bytes. NoMemory.
 pub fn frames(alloc: Global, v: &Verified) -> Result<Vec<FramedClass>, FrameError>
     ensures framed { IfOk result (λ framed.
@@ -54,7 +53,11 @@ pub fn verified_frames(alloc: Global, linked: &Linked) -> Result<Vec<FramedClass
     ensures unframed { IfErr result (refusals.IsUnframed linked.now.classes) }
 {
     match classes_with_tables(alloc, linked) {
-        Ok(framed) => small_enough(linked, framed),
+        Ok(TabledClasses::Framed(framed)) => Ok(framed),
+        Ok(TabledClasses::TooLarge { class, bytes }) => Err(Unframed::Refused(FrameError::TooLarge {
+            class,
+            bytes,
+        })),
         Err(Unmade::Untyped) => Err(Unframed::Untyped),
         Err(Unmade::Full(class)) => Err(Unframed::Refused(full(class))),
         Err(Unmade::NoMemory) => Err(Unframed::Refused(FrameError::NoMemory)),
@@ -70,20 +73,4 @@ fn full(class: u32) -> FrameError
         method: 0,
         kind: FrameFault::POOL,
     })
-}
-
-// Classes with tables, unless the file of one would be too large.
-fn small_enough(linked: &Linked, framed: Vec<FramedClass>) -> Result<Vec<FramedClass>, Unframed>
-    requires made { AreClassesMade linked.now.classes framed.items }
-    ensures framed { IfOk result (λ framed.
-        refusals.AreWithTables linked.now.classes framed.items) }
-    ensures writable { IfOk result (λ framed. All refusals.IsWritable framed.items) }
-    ensures small { IfOk result (λ framed.
-        All (λ f. sizes.file_size f ≤ sizes.most) framed.items) }
-    ensures unframed { IfErr result (refusals.IsUnframed linked.now.classes) }
-{
-    match first_too_large(&framed) {
-        Some((class, bytes)) => Err(Unframed::Refused(FrameError::TooLarge { class, bytes })),
-        None => Ok(framed),
-    }
 }

@@ -1,9 +1,9 @@
+use crate::sized_table::SizedTable;
 use jvm_code::Method;
-use jvm_definition::Sequence;
 
 /// A method with pruned code, and its table.
 #[derive(Drop)]
 pub struct TabledMethod {
     pub method: Method,
-    pub table: Sequence<u8>,
+    pub table: SizedTable,
 }

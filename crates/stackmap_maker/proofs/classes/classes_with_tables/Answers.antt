@@ -4,9 +4,11 @@ use Rattle.std.proofs.lemmas.Result.{err_from_is_err_and}
 use Rattle.class_definition.specs.Linking.{linked_methods}
 use Rattle.type_verifier.specs.Refusal.{methods_before}
 use Rattle.frame_maps.proofs.CheckLaws.{methods-within, next-before, stands-at}
-use Rattle.stackmap_maker.specs.Made.{IsClassMade, AreClassesMadeFrom}
+use Rattle.std.proofs.lemmas.Option.{none-some}
+use Rattle.stackmap_maker.specs.Made.{IsClassMadeWithin, AreSmall, AreTabledTo, IsWithClass}
 use Rattle.stackmap_maker.specs.Full.{IsUnmadeAt}
-use Rattle.stackmap_maker.proofs.Steps.{take-all, before-none, classes-none, classes-next, room-next, unmade-at}
+use Rattle.stackmap_maker.proofs.Steps.{take-all, before-none, classes-none, room-next, unmade-at}
+use Rattle.stackmap_maker.proofs.Within.{next-tabled}
 use Rattle.stackmap_maker.proofs.classes.classes_with_tables.Goals as goal
 
 pub loop-number-init : goal.loop-number-init
@@ -14,7 +16,10 @@ loop-number-init c =
     let cs = c.args.linked.now.classes in
     record {
       first = sym (before-none cs);
-      are = classes-none cs c.new-framed.result.items c.new-framed.ensures.items;
+      tabled = (
+        classes-none cs c.new.result.items c.new.ensures.items,
+        subst AreSmall (sym c.new.ensures.items) (λ k other is. absurd (none-some other is)),
+      );
       room = λ k other less there. absurd (omega (arith, less));
     }
 
@@ -30,16 +35,16 @@ class_with_tables-requires-clause-there c =
 pub class_with_tables-requires-clause-first : goal.class_with_tables-requires-clause-first
 class_with_tables-requires-clause-first c = c.loop-number.invariant.first ∙ ap (methods_before c.args.linked.now.classes) (sym c.in_ok-name.ensures)
 
-pub returns-in_err-tabled-clause-unmade : goal.returns-in_err-tabled-clause-unmade
-returns-in_err-tabled-clause-unmade c =
+pub returns-in_err-sized-clause-unmade : goal.returns-in_err-sized-clause-unmade
+returns-in_err-sized-clause-unmade c =
     let cs = c.args.linked.now.classes in
     let n = c.loop-number.number in
     let class = c.index-classes-number.result in
     let all = c.as_slice-classes.ensures in
     let less : n < length cs = omega (arith, c.loop-number-test.true, ap length all) in
     let is = stands-at cs n class less (c.index-classes-number.is ∙ ap (λ xs. get_or xs n class) all) in
-    let p = err_from_is_err_and c.from_residual-in_err-tabled.result c.from_residual-in_err-tabled.ensures.1 in
-    rw (p.1, p.2) (unmade-at cs n class c.in_err-tabled.field-0.0 is c.loop-number.invariant.room (subst (λ k. IsUnmadeAt cs k class c.in_err-tabled.field-0.0) c.in_ok-name.ensures c.in_err-tabled.ensures.unmade))
+    let p = err_from_is_err_and c.from_residual-in_err-sized.result c.from_residual-in_err-sized.ensures.1 in
+    rw (p.1, p.2) (unmade-at cs n class c.in_err-sized.field-0.0 is c.loop-number.invariant.room (subst (λ k. IsUnmadeAt cs k class c.in_err-sized.field-0.0) c.in_ok-name.ensures c.in_err-sized.ensures.unmade))
 
 pub behind-first-requires : goal.behind-first-requires
 behind-first-requires c =
@@ -63,12 +68,14 @@ loop-number-preserved c =
     let less : n < length cs = omega (arith, c.loop-number-test.true, ap length all) in
     let is = stands-at cs n class less (c.index-classes-number.is ∙ ap (λ xs. get_or xs n class) all) in
     let v = c.loop-number.invariant in
-    let d = c.in_ok-tabled.tabled in
-    let framed : IsClassMade cs n class d = subst (λ k. IsClassMade cs k class d) c.in_ok-name.ensures c.in_ok-tabled.ensures.made in
+    let d = c.in_ok-sized.sized in
+    let own : IsClassMadeWithin cs n class c.room_of-room.result d = subst (λ k. IsClassMadeWithin cs k class c.room_of-room.result d) c.in_ok-name.ensures c.in_ok-sized.ensures.made in
     record {
       first = c.behind-first.ensures ∙ (ap (λ x. x + length class.methods) v.first ∙ next-before cs n class is);
-      are = classes-next cs n class d c.loop-number.framed.items c.add.new.classes.items is c.in_ok-add.ensures v.are framed;
-      room = room-next cs n class d is framed v.room;
+      tabled =
+          next-tabled cs n class c.room_of-room.result d c.loop-number.tabled c.in_ok-tabled.tabled is c.room_of-room.ensures
+          (subst (λ k. IsWithClass c.loop-number.tabled k d c.in_ok-tabled.tabled) c.in_ok-name.ensures c.in_ok-tabled.ensures) own v.tabled;
+      room = room-next cs n class own.all is own.is v.room;
     }
 
 pub returns-clause-made : goal.returns-clause-made
@@ -76,4 +83,4 @@ returns-clause-made c =
     let cs = c.args.linked.now.classes in
     let n = c.loop-number.number in
     let end : n ≡ length cs = omega (arith, c.loop-number-test.false, c.loop-number.auto.number-end, ap length c.as_slice-classes.ensures) in
-    subst (λ z. AreClassesMadeFrom cs 0 z c.loop-number.framed.items) (take-all cs n end) c.loop-number.invariant.are
+    subst (λ z. AreTabledTo cs z c.loop-number.tabled) (take-all cs n end) c.loop-number.invariant.tabled

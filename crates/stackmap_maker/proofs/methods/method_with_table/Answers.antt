@@ -6,7 +6,7 @@ use Rattle.class_definition.specs.MemberNames.{slot_text}
 use Rattle.jvm_definition.specs.declared.linked_method.LinkedMethod.{LinkedMethod}
 use Rattle.jvm_definition.specs.Program.{LaidFrom}
 use Rattle.class_definition.specs.Linking.{gives_int, linked_method, linked_methods, program_of}
-use Rattle.jvm_link.specs.Order.{IsInOrder}
+use Rattle.jvm_code.specs.Order.{IsInOrder}
 use Rattle.type_verifier.specs.Refusal.{methods_before}
 use Rattle.type_verifier.specs.Typings.{RisesFrom, IsListed}
 use Rattle.stackmap_table.specs.Shortest.{AreTabled, IsTableOf}
@@ -15,7 +15,7 @@ use Rattle.stackmap_prune.specs.Code.{is_listed, KeepsTargets, IsPrunedMethod}
 use Rattle.stackmap_prune.specs.Linked.{listing_behind}
 use Rattle.stackmap_laws.specs.Framed.{IsPrunedOf}
 use Rattle.stackmap_laws.proofs.ClosedLaws.{keeps-targets}
-use Rattle.stackmap_maker.specs.Made.{IsMade}
+use Rattle.stackmap_maker.specs.Made.{IsMadeWithin}
 use Rattle.stackmap_maker.proofs.Steps.{place-of, own-of, laid-at, gives-of, sound-at, method-fits, own-tabled, not-typed}
 use Rattle.stackmap_maker.proofs.methods.method_with_table.Goals as goal
 
@@ -119,10 +119,16 @@ returns-in_ok-tabled-in-Listed c = λ of of-is.
       is = subst (λ b. IsPrunedMethod (is_listed reached) b m t.method) gives (subst (λ r. IsPrunedMethod (is_listed r) own.gives_int m t.method) same c.in_ok-tabled-in-Listed.ensures.pruned);
       sound = c.in_ok-tabled-in-Listed.ensures.sound;
     } in
-    let made : IsMade cs number class c.args.pool.now m t.method t.table = record {
-      is = pruned;
-      tabled =
-          subst (λ (x : LinkedMethod). IsTableOf c.args.pool.now x.parameters (listing_behind x reached) t.table) own-is
-          (subst (λ r. IsTableOf c.args.pool.now own.parameters (listing_behind own r) t.table) same c.in_ok-tabled-in-Listed.ensures.tabled);
+    let w = c.in_ok-tabled-in-Listed.ensures.tabled in
+    let made : IsMadeWithin cs number class c.args.pool.now c.args.room m t.method t.table.bytes t.table.size = record {
+      all = w.all;
+      is = record {
+        is = pruned;
+        tabled =
+            subst (λ (x : LinkedMethod). IsTableOf c.args.pool.now x.parameters (listing_behind x reached) w.all) own-is
+            (subst (λ r. IsTableOf c.args.pool.now own.parameters (listing_behind own r) w.all) same w.is);
+      };
+      sized = w.sized;
+      written = w.written;
     } in
-    subst (λ (x : Method). IsMade cs number class c.args.pool.now x t.method t.table) (same_Some m of (sym is ∙ of-is)) made
+    subst (λ (x : Method). IsMadeWithin cs number class c.args.pool.now c.args.room x t.method t.table.bytes t.table.size) (same_Some m of (sym is ∙ of-is)) made
