@@ -16,6 +16,7 @@ use crate::entered_translations::translations_go_on;
 use crate::linked_translations::translations_link;
 use crate::repeated_translations::translations_run_again;
 use crate::sized_translations::{translated_spans_are_least, translated_spans_keep_to_the_limit};
+use crate::sliced_translations::metered_translations_run_in_slices;
 use crate::stopped_translations::{metered_translations_have_no_blocks, metered_translations_stop};
 use crate::translated_loading::{others_do_not_load, translations_load};
 use crate::translated_methods::translations_stand;
@@ -58,7 +59,7 @@ pub fn images_are_translated(image: &Image)
     translations_are_warm();
 }
 
-/// So is every translation of an image with a meter: its classes are accepted, run as the image's program does, and stop by the meter.
+/// So is every translation of an image with a meter: its classes are accepted, run as the image's program does, stop by the meter, and go on in slices.
 pub fn metered_images_are_translated(image: &Image)
     ensures { (name : Text) (method_bytes turns : ℕ) (built : Built)
         → IsClassName name → 4096 ≤ method_bytes → turns < 2 ^ 31
@@ -73,6 +74,7 @@ pub fn metered_images_are_translated(image: &Image)
     translated_spans_are_least();
     metered_translations_have_no_blocks();
     metered_translations_stop();
+    metered_translations_run_in_slices();
 }
 
 // It does nothing: an image is so by its laws.

@@ -12,6 +12,7 @@ pub mod linked_translations;
 mod metered_translation;
 pub mod repeated_translations;
 pub mod sized_translations;
+pub mod sliced_translations;
 pub mod stopped_translations;
 pub mod translated_loading;
 pub mod translated_methods;

@@ -1,5 +1,6 @@
 -- A linked translation with a meter stops by it.
-use Rattle.std.proofs.Common.{◌≡◌, ℕ, ◌+◌, ◌*◌, ◌^◌, ◌<◌, ◌≤◌, true, IsTrue, Option, Some, refl, subst, ◌∙◌, arith}
+use Rattle.std.proofs.Common.{◌≡◌, ℕ, ◌+◌, ◌*◌, ◌^◌, ◌<◌, ◌≤◌, true, IsTrue, List, Option, Some, refl, subst, ◌∙◌, arith}
+use Rattle.std.specs.Prelude.{sum}
 use Rattle.run_definition.specs.Answer.{Answer, answer_fits}
 use Rattle.run_definition.specs.Memory.{Memory}
 use Rattle.run_definition.specs.Question.{Question}
@@ -17,9 +18,11 @@ use Rattle.jvm_definition.specs.Step.{loaded_program, loaded_turn, jvm_start, jv
 use Rattle.class_definition.specs.Linking.{program_of}
 use Rattle.emit_paths_laws.proofs.Loaded.{loaded_run}
 use Rattle.emit_program_laws.specs.LoadingCodeLaws.Loaded.{paged}
+use Rattle.emit_layout.specs.Numbers.{choose_number}
 use Rattle.emit_metered_laws.specs.Metering.{spent}
 use Rattle.emit_metered_laws.specs.Programs.{IsMeteredProgram, LoadsByMeterWithin, MeteredProgram}
 use Rattle.emit_metered_laws.specs.Running.{MeteredProgramsFollow, from_start}
+use Rattle.emit_metered_laws.specs.Slices.{FirstRunsAreSlices, IsSlice, SlicesAddUpFromStart, sliced}
 use Rattle.translate_program.specs.declared.built.Built.{Built}
 use Rattle.translate_program.specs.Files.{meter_allow}
 use Rattle.nv_translate.specs.Images.{IsImage}
@@ -71,6 +74,13 @@ module _ (law : MeteredProgramsFollow) (source : Source) (name : Text) (method_b
         same
         (metered-start (from_start metered (131072 * (mapped + 4)) (law metered (131072 * (mapped + 4)) are-metered loads-within)) reply fitting m system room)
 
+    -- that is a slice, if a turn at least is on the meter
+    pub first-sliced : FirstRunsAreSlices reply → 1 ≤ turns → IsSlice reply (image_of source).order (image_of source).code choose_number turns (start_of (image_of source)) system (run_of (jvm_turn program words) reply m (jvm_start program) system)
+    first-sliced first some =
+        subst (λ (memory : Memory). IsSlice reply (image_of source).order (image_of source).code choose_number turns (starts memory) system (run_of (jvm_turn program words) reply m (jvm_start program) system))
+        same
+        (first metered (131072 * (mapped + 4)) m system are-metered loads-within some room)
+
     -- so do the classes as they are loaded
     pub ended : IsMetered spent (run_of guest.turn reply turns (start_of (image_of source)) system) (run_of loaded_turn reply m (loaded_program program words) system)
     ended =
@@ -82,3 +92,10 @@ module _ (law : MeteredProgramsFollow) (source : Source) (name : Text) (method_b
           goes = λ going. of_loaded.outcome ∙ of_state.goes going;
           over = λ over. of_loaded.outcome ∙ of_state.over over;
         }
+
+    -- slices add up
+    pub sliced-sums : SlicesAddUpFromStart reply → (more : List ℕ) → 1 ≤ turns → turns + sum more < 2 ^ 31 → meter_allow mapped (turns + sum more) ≤ m → IsMetered spent (run_of guest.turn reply (turns + sum more) (start_of (image_of source)) system) (sliced (run_of (jvm_turn program words) reply m) choose_number more (jvm_start program) system)
+    sliced-sums adds more some small long =
+        subst (λ (memory : Memory). IsMetered spent (run_of guest.turn reply (turns + sum more) (starts memory) system) (sliced (run_of (jvm_turn program words) reply m) choose_number more (jvm_start program) system))
+        same
+        (adds metered (131072 * (mapped + 4)) m more system are-metered loads-within some small long)

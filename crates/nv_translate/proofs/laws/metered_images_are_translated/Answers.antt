@@ -12,14 +12,18 @@ returns c name method_bytes turns built lawful large few is =
     c.translations_link.ensures (Some turns) source name method_bytes built image.code.whole lawful is in
     record {
       translated = record {
-        classes = linked.classes;
-        held = record {
-          spelled = linked.spelled;
-          accepted = (c.translations_are_accepted.ensures (Some turns) source name method_bytes built image.code lawful is).all linked;
-          stored = λ files stored. c.translations_are_sets.ensures (Some turns) source name method_bytes built files image.code lawful is linked stored;
+        runs = record {
+          classes = linked.classes;
+          held = record {
+            spelled = linked.spelled;
+            accepted = (c.translations_are_accepted.ensures (Some turns) source name method_bytes built image.code lawful is).all linked;
+            stored = λ files stored. c.translations_are_sets.ensures (Some turns) source name method_bytes built files image.code lawful is linked stored;
+          };
+          stops = c.metered_translations_stop.ensures.stops source name method_bytes turns built image large few linked;
+          ends = c.metered_translations_stop.ensures.ends source name method_bytes turns built image large few linked;
         };
-        stops = c.metered_translations_stop.ensures.stops source name method_bytes turns built image large few linked;
-        ends = c.metered_translations_stop.ensures.ends source name method_bytes turns built image large few linked;
+        slices = c.metered_translations_run_in_slices.ensures.answered source name method_bytes turns built image large few linked;
+        system_slices = c.metered_translations_run_in_slices.ensures.served source name method_bytes turns built image large few linked;
       };
       by = record {
         is = is;
