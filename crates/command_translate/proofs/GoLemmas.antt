@@ -90,7 +90,7 @@ module _ (plan : Plan) (starts : (held : Held) → StartsAs plan held) where
       → IsDueOfMetered AreMade plan method_bytes turns image given rest due
   by_meter_due method_bytes turns image unix given rest due begins h =
       metered_due plan method_bytes turns image h.0 h.1 h.2 given rest h.4.0 h.3 due
-      (held_due (allowed_by_meter turns image) loaded_turn (loaded_program (program_of h.1.classes) (need (image_of image).mapped))
+      (held_due (allowed_by_meter turns image) loaded_turn (loaded_program (program_of h.1.runs.classes) (need (image_of image).mapped))
       plan unix given rest h.4.0 (starts unix) begins h.4.1) h.4.2 h.5
 
   -- the image was made and the system is ready, and the rest came to what is due of it

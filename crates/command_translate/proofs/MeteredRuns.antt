@@ -95,7 +95,7 @@ told_works later w v (Err stop) none p = p
 
 pub metered_works : (plan : Plan) (method_bytes turns : ℕ) (image : Source) (unix : Held) (files : List NamedFile) (w v : World) (end : Result CommandAnswer Stop)
     → (t : TranslatedMetered image plan.name turns files) → AreMade (Some turns) image plan.name method_bytes files
-    → WorksOn (λ x. IsDueBehind files (IsDueOfHeldRun (allowed_by_meter turns image) (need (image_of image).mapped) unix plan.session.keep.names t.classes
+    → WorksOn (λ x. IsDueBehind files (IsDueOfHeldRun (allowed_by_meter turns image) (need (image_of image).mapped) unix plan.session.keep.names t.runs.classes
     x.input.told)) w v end
     → WorksOn (λ x. IsDueOfHeldMetered plan method_bytes turns image unix x.input.told) w v (ended_by_meter end)
 metered_works plan method_bytes turns image unix files w v end t made q =
@@ -120,20 +120,20 @@ module _ (plan : Plan) (turns : ℕ) (source : Source) (files : List NamedFile) 
   room = need (image_of source).mapped
 
   as_program : (input : Option (List ℕ)) → IsMetered spent (program_for plan source found input pieces turns)
-      (classes_for plan source found t.classes input pieces bound)
+      (classes_for plan source found t.runs.classes input pieces bound)
   as_program (Some input) =
-      metered_over reply system_fits source turns (program_of t.classes) room bound t.stops (omega arith) (omega arith)
+      metered_over reply system_fits source turns (program_of t.runs.classes) room bound t.runs.stops (omega arith) (omega arith)
       (system plan source found pieces input)
   as_program None =
-      without spent _ _ (metered_over reply_arriving arriving_fits source turns (program_of t.classes) room bound t.stops (omega arith) (omega arith)
+      without spent _ _ (metered_over reply_arriving arriving_fits source turns (program_of t.runs.classes) room bound t.runs.stops (omega arith) (omega arith)
       (arriving (system plan source found pieces []) pieces))
 
   -- the run and its answer, by the meter
   is_run : (input : Option (List ℕ))
-      → told_by_meter (of_runs loaded_turn bound (classes_for plan source found t.classes input pieces) plan.session.keep.names)
-      ≡ metered_run plan turns source found t.classes input pieces
+      → told_by_meter (of_runs loaded_turn bound (classes_for plan source found t.runs.classes input pieces) plan.session.keep.names)
+      ≡ metered_run plan turns source found t.runs.classes input pieces
   is_run input =
-      let classes = classes_for plan source found t.classes input pieces in
+      let classes = classes_for plan source found t.runs.classes input pieces in
       let program = program_for plan source found input pieces turns in
       let metered = as_program input in
       ap₂ (λ (files : GuestFiles) (answer : Option CommandAnswer). record {
@@ -142,7 +142,7 @@ module _ (plan : Plan) (turns : ℕ) (source : Source) (files : List NamedFile) 
       }) (ap (λ (s : System). s.files) metered.system) (same_answer program (classes bound) (program_faults_so plan source found pieces input turns) metered)
 
   no_trap : (input : Option (List ℕ)) (due : Due)
-      → due ≡ after_stores files (metered_run plan turns source found t.classes input pieces)
+      → due ≡ after_stores files (metered_run plan turns source found t.runs.classes input pieces)
       → (k : ℕ) → due.answer ≢ Some (says (done.Trapped k))
   no_trap input due is k h =
       program_traps_not plan source found pieces input turns k
@@ -151,15 +151,15 @@ module _ (plan : Plan) (turns : ℕ) (source : Source) (files : List NamedFile) 
 -- what is due of a translation with a meter, whose files are stored and whose classes run
 pub metered_due : (plan : Plan) (method_bytes turns : ℕ) (source : Source) (files : List NamedFile) (t : TranslatedMetered source plan.name turns files)
     → AreMade (Some turns) source plan.name method_bytes files → (given : List GivenFile) (rest : Option (List ℕ)) (run later due : Due)
-    → IsDueOfSteps (allowed_by_meter turns source) loaded_turn (loaded_program (program_of t.classes) (need (image_of source).mapped)) plan rest given run
+    → IsDueOfSteps (allowed_by_meter turns source) loaded_turn (loaded_program (program_of t.runs.classes) (need (image_of source).mapped)) plan rest given run
     → later ≡ after_stores files run → due ≡ told_by_meter later → IsDueOfMetered AreMade plan method_bytes turns source given rest due
 metered_due plan method_bytes turns source files t made given rest run later due h behind told_is =
-    let is : due ≡ after_stores files (metered_run plan turns source given t.classes rest h.0) =
+    let is : due ≡ after_stores files (metered_run plan turns source given t.runs.classes rest h.0) =
     told_is ∙ ap told_by_meter (behind ∙ ap (after_stores files) h.1)
     ∙ ap (after_stores files) (is_run plan turns source files t given h.0 rest) in
     record {
       files = files;
-      translated = t;
+      translated = t.runs;
       made = made;
       pieces = h.0;
       is = is;

@@ -34,11 +34,11 @@ spell_classes source name made files t same = subst (λ fs. SpellClasses fs t.cl
 pub hold_metered : (source : Source) (name : List ℕ) (turns : ℕ) (made files : List NamedFile)
     → TranslatedMetered source name turns made → files ≡ made → HoldAccepted files
 hold_metered source name turns made files t same =
-    subst HoldAccepted (sym same) (record { classes = t.classes; spelled = t.held.spelled; accepted = t.held.accepted })
+    subst HoldAccepted (sym same) (record { classes = t.runs.classes; spelled = t.runs.held.spelled; accepted = t.runs.held.accepted })
 
 pub spell_metered : (source : Source) (name : List ℕ) (turns : ℕ) (made files : List NamedFile)
-    → (t : TranslatedMetered source name turns made) → files ≡ made → SpellClasses files t.classes
-spell_metered source name turns made files t same = subst (λ fs. SpellClasses fs t.classes) (sym same) t.held.spelled
+    → (t : TranslatedMetered source name turns made) → files ≡ made → SpellClasses files t.runs.classes
+spell_metered source name turns made files t same = subst (λ fs. SpellClasses fs t.runs.classes) (sym same) t.runs.held.spelled
 
 -- ---- `translate`
 
@@ -67,7 +67,7 @@ files_due None image name method_bytes files words due t made needs is = record 
 }
 files_due (Some turns) image name method_bytes files words due t made needs is = record {
   files = files;
-  translated = t;
+  translated = t.runs;
   made = made;
   is = is ∙ ap (files_counted files) needs;
 }

@@ -45,5 +45,5 @@ IsDueOfHeldMetered plan method_bytes turns source unix input due =
     × (later : Due)
     × IsDueBehind files
     (IsDueOfHeldRun (allowed_by_meter turns source) (need (image_of source).mapped) unix
-    plan.session.keep.names t.classes input) later
+    plan.session.keep.names t.runs.classes input) later
     × (due ≡ told_by_meter later)

@@ -13,7 +13,7 @@ use Rattle.jvm_definition.specs.Step.{loaded_turn}
 use Rattle.class_definition.specs.declared.class.Class.{Class}
 use Rattle.translate_program.specs.Files.{meter_allow, need}
 use Rattle.translate_program.specs.declared.named_file.NamedFile.{NamedFile}
-use Rattle.nv_translate.specs.Metered.{TranslatedMetered}
+use Rattle.nv_translate.specs.Metered.{RunsByItsMeter}
 use Rattle.nv_translate.specs.Translated.{Making}
 use Rattle.command_deeds.specs.Ends.{CommandAnswer, Due, says}
 use Rattle.command_deeds.specs.Runs.{GivenFile, Plan, played}
@@ -73,7 +73,7 @@ pub record IsDueOfMetered (IsMade : Making) (plan : Plan) (method_bytes turns : 
     -- a translation: its files spell classes that are accepted, and that run as the program does
     -- until its turns are spent
     pub files : List NamedFile
-    pub translated : TranslatedMetered source plan.name turns files
+    pub translated : RunsByItsMeter source plan.name turns files
     pub made : IsMade (Some turns) source plan.name method_bytes files
     -- pieces of input, of which one comes before each call where it does not tell what it has left
     pub pieces : List (List ℕ)
@@ -95,7 +95,7 @@ pub record IsDueOfMeteredImage (IsMade : Making) (source : Source) (name : Text)
   -- a translation: its files spell classes that are accepted, and that run as the program does
   -- until its turns are spent
   pub files : List NamedFile
-  pub translated : TranslatedMetered source name turns files
+  pub translated : RunsByItsMeter source name turns files
   pub made : IsMade (Some turns) source name method_bytes files
   -- its files are stored, and counted
   pub is : due ≡ files_counted files (need (image_of source).mapped)
