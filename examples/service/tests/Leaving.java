@@ -6,7 +6,7 @@ import java.nio.charset.StandardCharsets;
 import java.util.ArrayList;
 import java.util.List;
 
-/** Clients that go away: `java Leaving.java PORT KEY COUNT`, so many of each kind. */
+/** Clients that go away: `Leaving PORT KEY COUNT`, so many of each kind. */
 public final class Leaving {
     private Leaving() {
     }
