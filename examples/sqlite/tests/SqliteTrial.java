@@ -6,6 +6,7 @@ import java.nio.charset.StandardCharsets;
 import java.nio.file.Files;
 import java.nio.file.Path;
 import java.nio.file.Paths;
+import java.sql.BatchUpdateException;
 import java.sql.Connection;
 import java.sql.DriverManager;
 import java.sql.PreparedStatement;
@@ -106,6 +107,9 @@ public final class SqliteTrial {
             database.execute("CREATE TABLE t (a PRIMARY KEY); INSERT INTO t VALUES (1)");
             refused(database, "INSERT INTO t VALUES (1)", 1555, "UNIQUE constraint failed: t.a");
             refused(database, "SELECT 1 FROM", 1, "incomplete input");
+            refusedToPrepare(database, " -- nothing", "there is no statement in this SQL");
+            refusedToPrepare(database, "CREATE TABLE u (a); INSERT INTO u VALUES (1)", "there is more than one statement in this SQL");
+            database.prepare("SELECT 1; -- and no more\n").close();
             try {
                 database.each("SELECT 1 UNION SELECT 2", (names, row) -> {
                     throw new IllegalArgumentException("enough");
@@ -125,6 +129,15 @@ public final class SqliteTrial {
             check(false, sql + " is not refused");
         } catch (SqliteException refusal) {
             check(refusal.code() == code && refusal.getMessage().equals(message), refusal.code() + " " + refusal.getMessage());
+        }
+    }
+
+    private static void refusedToPrepare(Database database, String sql, String message) {
+        try {
+            database.prepare(sql);
+            check(false, sql + " is prepared");
+        } catch (IllegalArgumentException refusal) {
+            check(refusal.getMessage().equals(message), refusal.getMessage());
         }
     }
 
@@ -164,13 +177,8 @@ public final class SqliteTrial {
             }
             connection.rollback();
             driverRows(connection);
+            driverRefusals(connection);
             check(connection.getMetaData().getDatabaseProductName().equals("SQLite"), "the product's name");
-            try {
-                connection.prepareCall("SELECT 1");
-                check(false, "a call is not there");
-            } catch (SQLFeatureNotSupportedException missing) {
-                check(missing.getMessage().equals("Connection.prepareCall"), missing.getMessage());
-            }
         }
         System.out.println("the driver: statements, parameters, rows, metadata, transactions");
     }
@@ -185,11 +193,31 @@ public final class SqliteTrial {
             check(rows.next() && rows.getDouble("magnitude") == 0.03 && rows.getInt("planets") == 0 && rows.wasNull(), "the second row");
             check(!rows.next() && !rows.next(), "the end");
         }
+    }
+
+    private static void driverRefusals(Connection connection) throws SQLException {
         try (java.sql.Statement statement = connection.createStatement()) {
             statement.executeQuery("SELECT missing FROM stars");
             check(false, "SQL that is wrong");
         } catch (SQLException refusal) {
             check(refusal.getMessage().equals("no such column: missing"), refusal.getMessage());
+        }
+        try (PreparedStatement insert = connection.prepareStatement("INSERT INTO stars (rowid) VALUES (?)")) {
+            for (int number : new int[] {7, 8, 7, 9}) {
+                insert.setInt(1, number);
+                insert.addBatch();
+            }
+            insert.executeBatch();
+            check(false, "a batch that is wrong");
+        } catch (BatchUpdateException refusal) {
+            check(refusal.getUpdateCounts().length == 2 && refusal.getSQLState().equals("23000"), "a batch that is wrong: " + refusal);
+        }
+        connection.rollback();
+        try {
+            connection.prepareCall("SELECT 1");
+            check(false, "a call is not there");
+        } catch (SQLFeatureNotSupportedException missing) {
+            check(missing.getMessage().equals("Connection.prepareCall"), missing.getMessage());
         }
     }
 

@@ -126,21 +126,35 @@ public final class Database implements AutoCloseable {
      * @param sql one statement, with parameters such as {@code ?}, {@code ?2} or {@code :name}
      * @return the statement, which is closed with the database at the latest
      * @throws SqliteException if it is refused
-     * @throws IllegalArgumentException if there is no statement
+     * @throws IllegalArgumentException if there is no statement, or more than one
      */
     public synchronized Statement prepare(String sql) {
         byte[] text = (sql + "\0").getBytes(StandardCharsets.UTF_8);
-        int[] made = new int[1];
         try (Memory copy = library.allocateMemory(text.length)) {
             copy.write(0, text);
-            check(functions.prepare(open(), copy, text.length, made, null));
+            int[] made = new int[1];
+            int[] rest = new int[1];
+            check(functions.prepare(open(), copy, text.length, made, rest));
+            if (made[0] == 0) {
+                throw new IllegalArgumentException("there is no statement in this SQL");
+            }
+            int start = rest[0] - copy.address();
+            if (hasStatement(copy.slice(start), text.length - start)) {
+                functions.finish(made[0]);
+                throw new IllegalArgumentException("there is more than one statement in this SQL");
+            }
+            Statement statement = new Statement(this, made[0]);
+            statements.add(statement);
+            return statement;
         }
-        if (made[0] == 0) {
-            throw new IllegalArgumentException("there is no statement in this SQL");
-        }
-        Statement statement = new Statement(this, made[0]);
-        statements.add(statement);
-        return statement;
+    }
+
+    /** Whether a text has more than comments. */
+    private boolean hasStatement(Pointer text, int bytes) {
+        int[] made = new int[1];
+        int result = functions.prepare(open(), text, bytes, made, null);
+        functions.finish(made[0]);
+        return result != OK || made[0] != 0;
     }
 
     /**

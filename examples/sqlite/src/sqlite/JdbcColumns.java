@@ -13,7 +13,8 @@ final class JdbcColumns {
         this.statement = statement;
     }
 
-    private int place(int column) throws SQLException {
+    /** The number from 0 on, as SQLite counts, of a column of these rows whose number from 1 on is given. */
+    static int place(Statement statement, int column) throws SQLException {
         if (column < 1 || column > statement.columns()) {
             throw new SQLException("there are " + statement.columns() + " columns, and none of number " + column);
         }
@@ -25,15 +26,15 @@ final class JdbcColumns {
     }
 
     public String getColumnName(int column) throws SQLException {
-        return statement.columnName(place(column));
+        return statement.columnName(place(statement, column));
     }
 
     public String getColumnLabel(int column) throws SQLException {
-        return statement.columnName(place(column));
+        return statement.columnName(place(statement, column));
     }
 
     public String getColumnTypeName(int column) throws SQLException {
-        String declaration = statement.columnDeclaration(place(column));
+        String declaration = statement.columnDeclaration(place(statement, column));
         return declaration == null ? "" : declaration;
     }
 

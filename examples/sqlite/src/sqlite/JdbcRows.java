@@ -70,32 +70,30 @@ final class JdbcRows {
         return null;
     }
 
-    /** The statement, at a column of the row. */
-    private Statement at(int column) throws SQLException {
+    /** The number from 0 on of a column of the row, which is read now. */
+    private int at(int column) throws SQLException {
         if (!isOnRow) {
             throw new SQLException("this is on no row");
         }
-        if (column < 1 || column > statement.columns()) {
-            throw new SQLException("there are " + statement.columns() + " columns, and none of number " + column);
-        }
-        wasNull = statement.isNull(column - 1);
-        return statement;
+        int place = JdbcColumns.place(statement, column);
+        wasNull = statement.isNull(place);
+        return place;
     }
 
     public Object getObject(int column) throws SQLException {
-        return at(column).get(column - 1);
+        return statement.get(at(column));
     }
 
     public String getString(int column) throws SQLException {
-        return at(column).getText(column - 1);
+        return statement.getText(at(column));
     }
 
     public byte[] getBytes(int column) throws SQLException {
-        return at(column).getBytes(column - 1);
+        return statement.getBytes(at(column));
     }
 
     public long getLong(int column) throws SQLException {
-        return at(column).getLong(column - 1);
+        return statement.getLong(at(column));
     }
 
     public int getInt(int column) throws SQLException {
@@ -111,7 +109,7 @@ final class JdbcRows {
     }
 
     public double getDouble(int column) throws SQLException {
-        return at(column).getDouble(column - 1);
+        return statement.getDouble(at(column));
     }
 
     public float getFloat(int column) throws SQLException {
@@ -143,12 +141,20 @@ final class JdbcRows {
         return getInt(findColumn(label));
     }
 
+    public short getShort(String label) throws SQLException {
+        return getShort(findColumn(label));
+    }
+
     public boolean getBoolean(String label) throws SQLException {
         return getBoolean(findColumn(label));
     }
 
     public double getDouble(String label) throws SQLException {
         return getDouble(findColumn(label));
+    }
+
+    public float getFloat(String label) throws SQLException {
+        return getFloat(findColumn(label));
     }
 
     public BigDecimal getBigDecimal(String label) throws SQLException {

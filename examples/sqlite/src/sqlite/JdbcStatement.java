@@ -1,6 +1,7 @@
 package sqlite;
 
 import java.math.BigDecimal;
+import java.sql.BatchUpdateException;
 import java.sql.Connection;
 import java.sql.ResultSet;
 import java.sql.ResultSetMetaData;
@@ -101,12 +102,18 @@ final class JdbcStatement {
     }
 
     public int[] executeBatch() throws SQLException {
-        int[] counts = new int[batch.size()];
-        for (int i = 0; i < counts.length; i++) {
-            values = batch.get(i);
-            counts[i] = executeUpdate();
-        }
+        List<Object[]> all = new ArrayList<>(batch);
         batch.clear();
+        int[] counts = new int[all.size()];
+        for (int i = 0; i < counts.length; i++) {
+            values = all.get(i);
+            try {
+                counts[i] = executeUpdate();
+            } catch (SqliteException refusal) {
+                SQLException failure = Partial.failure(refusal);
+                throw new BatchUpdateException(failure.getMessage(), failure.getSQLState(), failure.getErrorCode(), Arrays.copyOf(counts, i), refusal);
+            }
+        }
         return counts;
     }
 

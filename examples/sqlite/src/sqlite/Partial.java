@@ -14,6 +14,9 @@ import java.util.Map;
  * same name and parameters of that class, and where it has none the method throws {@link SQLFeatureNotSupportedException}.
  */
 final class Partial {
+    /** SQLite's result code of a constraint that does not hold. */
+    private static final int CONSTRAINT = 19;
+
     private final Object part;
     private final Map<Method, Method> methods = new HashMap<>();
 
@@ -49,7 +52,7 @@ final class Partial {
         try {
             return own.invoke(part, arguments);
         } catch (InvocationTargetException thrown) {
-            throw failure(thrown.getCause());
+            throw thrown(thrown.getCause());
         }
     }
 
@@ -61,15 +64,15 @@ final class Partial {
         return isAsked ? (Object) (found != null) : found;
     }
 
+    private static Throwable thrown(Throwable cause) {
+        if (cause instanceof SqliteException) {
+            return failure((SqliteException) cause);
+        }
+        return cause instanceof RuntimeException ? new SQLException(cause.getMessage(), "HY000", cause) : cause;
+    }
+
     /** What SQLite refuses has SQLite's number; the state is that of integrity constraints, or of errors of any kind. */
-    private static Throwable failure(Throwable thrown) {
-        if (thrown instanceof SqliteException) {
-            int code = ((SqliteException) thrown).code();
-            return new SQLException(thrown.getMessage(), (code & 255) == 19 ? "23000" : "HY000", code, thrown);
-        }
-        if (thrown instanceof RuntimeException) {
-            return new SQLException(thrown.getMessage(), "HY000", thrown);
-        }
-        return thrown;
+    static SQLException failure(SqliteException refusal) {
+        return new SQLException(refusal.getMessage(), (refusal.code() & 255) == CONSTRAINT ? "23000" : "HY000", refusal.code(), refusal);
     }
 }
