@@ -10,6 +10,9 @@
 /* The most samples of a picture. */
 #define MOST_SAMPLES (48u << 20)
 
+/* The most scans of a JPEG. A progressive one has some ten, and each goes over the whole picture. */
+#define MOST_SCANS 100
+
 /* 1 channel is grey, 3 are red, green and blue, and 4 these and alpha. */
 struct picture {
     int width, height, channels;
@@ -17,8 +20,8 @@ struct picture {
 };
 
 struct file {
-    int count;
-    unsigned char *bytes;
+    size_t count;
+    char *bytes;
 };
 
 /* Why the last call failed. */
@@ -57,6 +60,14 @@ static void say_nothing(j_common_ptr coder)
     (void)coder;
 }
 
+static void count_scans(j_common_ptr decoder)
+{
+    if (((j_decompress_ptr)decoder)->input_scan_number > MOST_SCANS) {
+        fail("the picture has too many scans");
+        longjmp(way_out, 1);
+    }
+}
+
 static struct jpeg_error_mgr *errors(struct jpeg_error_mgr *manager)
 {
     jpeg_std_error(manager);
@@ -69,6 +80,7 @@ int read_jpeg(const unsigned char *bytes, int count, struct picture *picture)
 {
     struct jpeg_decompress_struct decoder;
     struct jpeg_error_mgr manager;
+    struct jpeg_progress_mgr progress = {count_scans};
     memset(&decoder, 0, sizeof decoder);
     memset(picture, 0, sizeof *picture);
     decoder.err = errors(&manager);
@@ -77,6 +89,7 @@ int read_jpeg(const unsigned char *bytes, int count, struct picture *picture)
         return -1;
     }
     jpeg_create_decompress(&decoder);
+    decoder.progress = &progress;
     jpeg_mem_src(&decoder, bytes, count);
     jpeg_read_header(&decoder, TRUE);
     decoder.out_color_space = decoder.jpeg_color_space == JCS_GRAYSCALE ? JCS_GRAYSCALE : JCS_RGB;
@@ -101,16 +114,18 @@ int write_jpeg(const struct picture *picture, int quality, struct file *made)
 {
     struct jpeg_compress_struct encoder;
     struct jpeg_error_mgr manager;
-    unsigned char *bytes = 0;
-    unsigned long count = 0;
+    FILE *file = open_memstream(&made->bytes, &made->count);
+    if (file == 0)
+        return fail("there is no memory");
     memset(&encoder, 0, sizeof encoder);
     encoder.err = errors(&manager);
     if (setjmp(way_out)) {
         jpeg_destroy_compress(&encoder);
+        fclose(file);
         return -1;
     }
     jpeg_create_compress(&encoder);
-    jpeg_mem_dest(&encoder, &bytes, &count);
+    jpeg_stdio_dest(&encoder, file);
     encoder.image_width = picture->width;
     encoder.image_height = picture->height;
     encoder.input_components = picture->channels;
@@ -124,9 +139,7 @@ int write_jpeg(const struct picture *picture, int quality, struct file *made)
     }
     jpeg_finish_compress(&encoder);
     jpeg_destroy_compress(&encoder);
-    made->bytes = bytes;
-    made->count = count;
-    return 0;
+    return fclose(file) == 0 ? 0 : fail("the picture is too large");
 }
 
 /* ---- PNG: it leaves so as well. Colours are taken as they stand, without a correction of gamma. */
@@ -142,15 +155,20 @@ static void say_nothing_of_png(png_structp coder, png_const_charp what)
     (void)coder, (void)what;
 }
 
-static struct file rest;
+/* What of a file is still to be read. */
+struct rest {
+    size_t count;
+    const unsigned char *bytes;
+};
 
 static void give(png_structp reader, png_bytep to, size_t count)
 {
-    if (count > (size_t)rest.count)
+    struct rest *rest = png_get_io_ptr(reader);
+    if (count > rest->count)
         png_error(reader, "the file ends early");
-    memcpy(to, rest.bytes, count);
-    rest.bytes += count;
-    rest.count -= (int)count;
+    memcpy(to, rest->bytes, count);
+    rest->bytes += count;
+    rest->count -= count;
 }
 
 /* Palettes, fewer bits and transparent colours become bytes; grey with alpha becomes colours with alpha. */
@@ -170,16 +188,17 @@ int read_png(const unsigned char *bytes, int count, struct picture *picture)
 {
     png_structp reader = png_create_read_struct(PNG_LIBPNG_VER_STRING, 0, leave_png, say_nothing_of_png);
     png_infop facts = reader == 0 ? 0 : png_create_info_struct(reader);
+    struct rest rest = {count, bytes};
     memset(picture, 0, sizeof *picture);
-    if (facts == 0)
+    if (facts == 0) {
+        png_destroy_read_struct(&reader, &facts, 0);
         return fail("there is no memory");
+    }
     if (setjmp(png_jmpbuf(reader))) {
         png_destroy_read_struct(&reader, &facts, 0);
         return -1;
     }
-    rest.bytes = (unsigned char *)bytes;
-    rest.count = count;
-    png_set_read_fn(reader, 0, give);
+    png_set_read_fn(reader, &rest, give);
     png_read_info(reader, facts);
     int passes = prepare(reader, facts);
     picture->width = png_get_image_width(reader, facts);
@@ -213,6 +232,6 @@ int write_png(const struct picture *picture, struct file *made)
         return fail("the picture is too large");
     if (!png_image_write_to_memory(&image, made->bytes, &count, 0, picture->samples, 0, 0))
         return fail(image.message);
-    made->count = (int)count;
+    made->count = count;
     return 0;
 }

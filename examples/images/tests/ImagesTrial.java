@@ -5,6 +5,7 @@ import java.awt.GradientPaint;
 import java.awt.Graphics2D;
 import java.awt.RenderingHints;
 import java.awt.image.BufferedImage;
+import java.awt.image.DataBufferByte;
 import java.io.ByteArrayInputStream;
 import java.io.ByteArrayOutputStream;
 import java.io.File;
@@ -48,6 +49,7 @@ public final class ImagesTrial {
         trial.drawn("colours", BufferedImage.TYPE_3BYTE_BGR);
         trial.drawn("alpha", BufferedImage.TYPE_4BYTE_ABGR);
         trial.wrong();
+        trial.large();
         trial.times();
         trial.writePage();
         trial.images.close();
@@ -164,6 +166,63 @@ public final class ImagesTrial {
         }
         check(difference(images.read(files[0]), image)[0] == 0, "the guest is not good afterwards");
         System.out.println("  200 files that were cut or changed: " + refused + " refused, and the guest is good");
+    }
+
+    /** Pictures that need more memory or time than there is are refused, each time, and with more memory they are read. */
+    private void large() throws IOException {
+        BufferedImage photograph = new BufferedImage(4000, 3000, BufferedImage.TYPE_3BYTE_BGR);
+        photograph.createGraphics().drawImage(drawing(BufferedImage.TYPE_3BYTE_BGR), 0, 0, 4000, 3000, null);
+        byte[] file = jpegByImageIo(photograph, false);
+        for (int i = 0; i < 3; i++) {
+            refused("the picture is too large", () -> images.read(file));
+            refused("Codecs has no room for 36000000 bytes", () -> images.writePng(photograph));
+        }
+        byte[] scans = withMoreScans(jpegByImageIo(drawing(BufferedImage.TYPE_3BYTE_BGR), true), 200);
+        refused("the picture has too many scans", () -> images.read(scans));
+        try (Images more = new Images(64)) {
+            check(difference(more.read(file), byImageIo(file))[0] == 0, "the photograph is read in another way");
+        }
+        try (Images less = new Images(4)) {
+            for (int i = 0; i < 10; i++) {
+                refused("Output file write error --- out of disk space?", () -> less.writeJpeg(noise(1000), 100));
+            }
+        }
+        System.out.println("  too large for the memory, or with too many scans: refused; a photograph of 12 million points in 64 MiB: read");
+    }
+
+    /** Something of the guest that may be refused. */
+    private interface Work {
+        Object run() throws IOException;
+    }
+
+    private static void refused(String message, Work work) {
+        try {
+            work.run();
+            check(false, "this is not refused: " + message);
+        } catch (IOException refusal) {
+            check(refusal.getMessage().equals(message), "refused otherwise: " + refusal);
+        }
+    }
+
+    private static BufferedImage noise(int width) {
+        BufferedImage image = new BufferedImage(width, width, BufferedImage.TYPE_3BYTE_BGR);
+        new Random(1).nextBytes(((DataBufferByte) image.getRaster().getDataBuffer()).getData());
+        return image;
+    }
+
+    /** A progressive JPEG whose last scan stands in it so many times more. */
+    private static byte[] withMoreScans(byte[] file, int count) throws IOException {
+        int start = file.length - 2;
+        while ((file[start] & 255) != 0xff || (file[start + 1] & 255) != 0xda) {
+            start--;
+        }
+        ByteArrayOutputStream made = new ByteArrayOutputStream();
+        made.write(file, 0, start);
+        for (int i = 0; i <= count; i++) {
+            made.write(file, start, file.length - 2 - start);
+        }
+        made.write(file, file.length - 2, 2);
+        return made.toByteArray();
     }
 
     private void times() throws IOException {
