@@ -69,9 +69,11 @@ static void try_folders(void)
     write_file("one/two/b", "12345");
     list("one");
     list("./one/two/..");
+    list("one/");
     list("none");
     list("one/a");
     tell("one");
+    tell("one/");
     tell("one/a");
     tell("one/two/../two/b");
     tell("one/none");

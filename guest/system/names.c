@@ -6,7 +6,7 @@
  * says that its own files are all there: then it has the path that it has there, and what is elsewhere has its whole path for a name.
  *
  * A path that is the name of a file as it stands means that file where no other does. So what `nested --with` and `--keep` name is found by that
- * name, be it /etc/hosts or ../x.
+ * name, be it /etc/hosts or ../x. A name with a slash behind it is that of no file: by it hosts know a folder.
  */
 #include "call.h"
 #include "host.h"
@@ -113,7 +113,7 @@ const char *nested_name(const char *path, char into[NAME_BYTES])
     if (nested_whole_path(path, whole) < 0)
         return 0;
     name = name_of(whole);
-    is_fixed = *path == '/' || strcmp(folder, start) == 0;
+    is_fixed = (*path == '/' || strcmp(folder, start) == 0) && path[strlen(path) - 1] != '/';
     if (is_fixed && strcmp(name, path) != 0 && !is_file(name) && is_file(path))
         return path;
     if (strlen(name) >= NAME_BYTES) {
