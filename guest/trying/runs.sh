@@ -38,6 +38,12 @@ run() {
 
 # three_ways NAME SIZES FILES WORDS..: runs the guest run/NAME: SIZES are options of interp, go and translate, FILES also of the launcher
 three_ways() {
+    by_nested "$@"
+    on_jvm "$@"
+}
+
+# by_nested NAME SIZES FILES WORDS..: by interp and by go
+by_nested() {
     local name=$1 sizes files
     read -ra sizes <<<"$2"
     read -ra files <<<"$3"
@@ -46,7 +52,6 @@ three_ways() {
     run "  $name by go" "$nested" go "$name" "${sizes[@]}" "${files[@]}" -- "${@:4}"
     took go "$name"
     rm -f run/Main*.class
-    on_jvm "$@"
 }
 
 # on_jvm NAME SIZES FILES WORDS..: the same, translated, on a Java virtual machine
