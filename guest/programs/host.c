@@ -93,6 +93,8 @@ static void try_folders(void)
     printf("\n");
     printf("%d", glob("one/*", 0, 0, &found));
     printf(" %d %s\n", (int)found.gl_pathc, found.gl_pathc > 0 ? found.gl_pathv[0] : "");
+    globfree(&found);
+    printf("%d %d\n", glob("one/\\a", 0, 0, &found), glob("one/\\*", 0, 0, &found) == GLOB_NOMATCH);
     say("rmdir", rmdir("one/three"));
     say("rmdir", rmdir("one/a"));
     say("unlink", unlink("one/three/b"));

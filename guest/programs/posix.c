@@ -8,6 +8,7 @@
 #include <errno.h>
 #include <fcntl.h>
 #include <fnmatch.h>
+#include <glob.h>
 #include <getopt.h>
 #include <iconv.h>
 #include <libgen.h>
@@ -257,6 +258,18 @@ static void try_patterns(void)
     printf("%d %d\n", fnmatch("*.c", "x.c", 0), fnmatch("*.c", "x.h", 0) != 0);
 }
 
+static void try_glob(void)
+{
+    glob_t found;
+    printf("%d\n", glob("none*", 0, 0, &found) == GLOB_NOMATCH);
+    printf("%d", glob("no\\ne*", GLOB_NOCHECK, 0, &found));
+    printf(" %d", glob("no[n]\\e", GLOB_APPEND | GLOB_NOCHECK | GLOB_NOESCAPE, 0, &found));
+    for (size_t i = 0; i < (size_t)found.gl_pathc; i++)
+        printf(" %s", found.gl_pathv[i]);
+    printf("\n");
+    globfree(&found);
+}
+
 static void try_time(void)
 {
     struct tm parts = { .tm_year = 100, .tm_mon = 1, .tm_mday = 29, .tm_hour = 12 };
@@ -298,6 +311,7 @@ int main(int argc, char **argv)
     try_iconv();
     try_words(argc, argv);
     try_patterns();
+    try_glob();
     try_time();
     try_rest();
     return 0;
