@@ -76,6 +76,10 @@ void nested_unlinked(const char *name);
 /* Takes the environment, where the words begin with one, out of the arguments. */
 void nested_environment(int *argc, char ***argv);
 
+/* The decimal digits of a number, in `into`: where they begin. Programs have functions of their own with the names that newlib's are linked with. */
+#define DIGITS_BYTES 12
+const char *nested_digits(unsigned number, char into[DIGITS_BYTES]);
+
 /* The greatest break that sbrk made, and what writes to error output which --heap and --stack this run would have done with. */
 extern unsigned long nested_greatest_break;
 void nested_tell_sizes(void);

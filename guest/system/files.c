@@ -377,7 +377,7 @@ static void describe(struct stat *into, mode_t mode, dev_t device, unsigned shor
 
 int fstat(int fd, struct stat *into)
 {
-    char name[NAME_BYTES], digits[12];
+    char name[NAME_BYTES], digits[DIGITS_BYTES];
     unsigned words[4];                  /* the kind, the length, the blocks of 4,096 bytes, and 4,096 */
     if (nested_answer(nested_call(CALL_FSTAT, fd, (long)words, 0)) < 0)
         return -1;
@@ -388,7 +388,7 @@ int fstat(int fd, struct stat *into)
     describe(into, S_IFREG | 0666, OF_FILES, descriptors[fd].number);
     into->st_size = (off_t)words[1];
     into->st_blocks = words[2] * 8;     /* of 512 bytes */
-    if (nested_host_has_folders() && nested_host_name(HOST_DESCRIPTOR, __itoa(fd, digits, 10), name) != 0)
+    if (nested_host_has_folders() && nested_host_name(HOST_DESCRIPTOR, nested_digits((unsigned)fd, digits), name) != 0)
         nested_host_stat("", name, into);
     return 0;
 }

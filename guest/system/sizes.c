@@ -53,10 +53,10 @@ static void put(const char *text)
 
 void nested_tell_sizes(void)
 {
-    char digits[12];
+    char digits[DIGITS_BYTES];
     put("used: --heap ");
-    put(__utoa(heap_pages(), digits, 10));
+    put(nested_digits(heap_pages(), digits));
     put(" --stack ");
-    put(__utoa(stack_pages(), digits, 10));
+    put(nested_digits(stack_pages(), digits));
     put("\n");
 }
