@@ -11,6 +11,8 @@ build() {
 
 try() {
     take busybox busybox_unstripped
+    # it does what its name says, and where that is busybox, what its first word says
+    called=busybox
     cp text input
     same busybox sort -r
     same busybox wc

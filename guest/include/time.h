@@ -14,6 +14,11 @@ extern "C" {
 time_t timegm(struct tm *parts);
 time_t timelocal(struct tm *parts);
 #endif
+#if __MISC_VISIBLE || __XSI_VISIBLE
+/* newlib's, by the names that POSIX gives them */
+extern long timezone __asm__("_timezone");
+extern int daylight __asm__("_daylight");
+#endif
 #if __ISO_C_VISIBLE >= 2011
 int timespec_get(struct timespec *into, int base);
 #endif

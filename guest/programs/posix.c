@@ -276,6 +276,11 @@ static void try_time(void)
     struct timespec now;
     printf("%lld\n", (long long)timegm(&parts));
     printf("%d %d\n", clock_gettime(CLOCK_MONOTONIC, &now), clock_gettime(CLOCK_PROCESS_CPUTIME_ID, &now));
+    setenv("TZ", "EST5EDT", 1);
+    tzset();
+    printf("%ld %d\n", timezone, daylight);
+    setenv("TZ", "UTC0", 1);
+    tzset();
 }
 
 static void try_rest(void)

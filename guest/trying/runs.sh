@@ -6,12 +6,13 @@ wanted_output=$work/wanted
 kept=()
 
 # Of a case: options of interp, go and translate; the files that the program finds in the folder where it runs, where they come `from` if they are in
-# folders there, too; those that it keeps; and its environment.
+# folders there, too; those that it keeps; its environment; and the name that it finds for its own.
 sizes=()
 with=()
 from=
 keep=()
 environment=()
+called=Main
 
 now() {
     date +%s%N
@@ -47,11 +48,11 @@ by_nested() {
     local name=$1 sizes files
     read -ra sizes <<<"$2"
     read -ra files <<<"$3"
-    run "  $name by interp" "$nested" interp "$name" "${sizes[@]}" "${files[@]}" -- "${@:4}"
+    run "  $name by interp" "$nested" interp "$name" --name "$called" "${sizes[@]}" "${files[@]}" -- "${@:4}"
     took interp "$name"
-    run "  $name by go" "$nested" go "$name" "${sizes[@]}" "${files[@]}" -- "${@:4}"
+    run "  $name by go" "$nested" go "$name" --name "$called" "${sizes[@]}" "${files[@]}" -- "${@:4}"
     took go "$name"
-    rm -f run/Main*.class
+    rm -f "run/$called"*.class
 }
 
 # on_jvm NAME SIZES FILES WORDS..: the same, translated, on a Java virtual machine
@@ -61,10 +62,10 @@ on_jvm() {
     read -ra sizes <<<"$2"
     read -ra files <<<"$3"
     shift 3
-    (cd run && "$nested" translate "$name" "${sizes[@]}" --method-bytes 4096) >/dev/null
-    run "  $name on the JVM" java -XX:TieredStopAtLevel=1 -cp "$host" nestedvm.Run Main "${files[@]}" -- "$@"
+    (cd run && "$nested" translate "$name" --name "$called" "${sizes[@]}" --method-bytes 4096) >/dev/null
+    run "  $name on the JVM" java -XX:TieredStopAtLevel=1 -cp "$host" nestedvm.Run "$called" "${files[@]}" -- "$@"
     took jvm "$name"
-    rm -f run/Main*.class
+    rm -f "run/$called"*.class
 }
 
 # took WAY NAME: notes the milliseconds of a run for the table
