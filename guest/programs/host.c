@@ -111,6 +111,7 @@ static void try_places(const char *elsewhere)
     sprintf(path, "%s/host.txt", elsewhere);
     write_file(path, "elsewhere");
     tell(path);
+    tell("/dev/none");
     printf("%d\n", realpath("../", whole) != 0 && strcmp(whole, "/") != 0);
     say("unlink", unlink(path));
     file = tmpfile();

@@ -401,10 +401,12 @@ static int is_known_folder(const char *path)
         || (getcwd(folder, sizeof folder) != 0 && strcmp(whole, folder) == 0));
 }
 
-/* What opens as a file, or is a device, is told by fstat. */
-static int stat_open(const char *path, struct stat *into)
+/* What opens as a file, or is a device, is told by fstat. It is not opened by open, which asks stat whether it is a folder. */
+static int stat_open(const char *path, const char *name, struct stat *into)
 {
-    int fd = open(path, O_RDONLY), result;
+    int fd = open_in_dev(path, O_RDONLY), result;
+    if (fd == -2)
+        fd = open_file(name, O_RDONLY);
     if (fd < 0)
         return -1;
     result = fstat(fd, into);
@@ -428,7 +430,7 @@ int stat(const char *path, struct stat *into)
     else if (told < 0)
         return -1;
     else
-        return stat_open(path, into);
+        return stat_open(path, name, into);
     return 0;
 }
 
