@@ -250,6 +250,22 @@ static void try_folders(void)
     expect("rmdir", error(rmdir("d")), either(ENOSYS, 0));
 }
 
+static void try_open_folder(void)
+{
+    struct stat found;
+    int fd = open(".", O_RDONLY | O_DIRECTORY), file = openat(fd, "x", O_RDWR | O_CREAT, 0666);
+    DIR *folder = fdopendir(fd);
+    expect("fdopendir", folder == 0 ? errno : 0, either(ENOSYS, 0));
+    expect("an open folder", fstat(fd, &found) == 0 && S_ISDIR(found.st_mode), 1);
+    expect("fstatat", fstatat(fd, "x", &found, 0) == 0 && S_ISREG(found.st_mode), 1);
+    expect("fchdir", fchdir(fd), 0);
+    expect("read of a folder", error(read(fd, &found, 1)), EISDIR);
+    expect("unlinkat", unlinkat(fd, "x", 0), 0);
+    expect("a folder to write", error(open(".", O_WRONLY)), EISDIR);
+    expect("close", close(file), 0);
+    expect("close of a folder", folder != 0 ? closedir(folder) : close(fd), 0);
+}
+
 static void try_missing(void)
 {
     pthread_t thread;
@@ -277,6 +293,7 @@ int main(int argc, char **argv)
     try_devices();
     try_pipes();
     try_folders();
+    try_open_folder();
     try_missing();
     printf("%d tried, %d failed\n", tried, failed);
     return failed != 0;

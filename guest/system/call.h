@@ -52,9 +52,11 @@ const char *nested_name(const char *path, char into[NAME_BYTES]);
 /* The path from / on that a path means, without dots: its bytes, or -1 with errno. */
 int nested_whole_path(const char *path, char into[PATH_MAX]);
 
-/* Opens a folder for reading its list: a descriptor, or -1 with errno. Its path is kept while it is open, and freed. */
-int nested_open_folder(const char *path, const char *name);
+/* Opens the list of a folder: a descriptor, or -1 with errno. */
+int nested_open_list(const char *name);
 int nested_rename_folder(const char *from, const char *to);
+
+/* The whole path of an open folder, or 0 with errno; it is kept while the folder is open, and freed. */
 const char *nested_folder_path(int fd);
 void nested_set_folder_path(int fd, char *path);
 

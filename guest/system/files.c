@@ -107,17 +107,22 @@ static int open_in_dev(const char *path, int flags)
     return -2;
 }
 
-/* Opens a folder to be read by readdir, where it may be opened so. */
+/* Opens a folder, from which paths may go on. A host that has folders lists it, too. */
 static int open_folder(const char *path, const char *name, int flags)
 {
+    char whole[PATH_MAX];
     int fd;
-    if ((flags & O_ACCMODE) != O_RDONLY || (flags & O_CREAT) != 0 || !nested_host_has_folders()) {
+    if ((flags & O_ACCMODE) != O_RDONLY || (flags & O_CREAT) != 0) {
         errno = EISDIR;
         return -1;
     }
-    fd = nested_open_folder(path, name);
-    if (fd >= 0)
+    if (nested_whole_path(path, whole) < 0)
+        return -1;
+    fd = nested_host_has_folders() ? nested_open_list(name) : open_device(DEVICE_FOLDER, O_RDONLY);
+    if (fd >= 0) {
         descriptors[fd] = (struct descriptor){ O_RDONLY, 0, DEVICE_FOLDER, nested_number(name) };
+        nested_set_folder_path(fd, strdup(whole));
+    }
     return fd;
 }
 
@@ -385,7 +390,7 @@ int fstat(int fd, struct stat *into)
         describe(into, (device_of(fd) == DEVICE_PIPE ? S_IFIFO : S_IFCHR) | 0666, OF_CONSOLE, descriptors[fd].side);
         return 0;
     }
-    describe(into, S_IFREG | 0666, OF_FILES, descriptors[fd].number);
+    describe(into, device_of(fd) == DEVICE_FOLDER ? S_IFDIR | 0777 : S_IFREG | 0666, OF_FILES, descriptors[fd].number);
     into->st_size = (off_t)words[1];
     into->st_blocks = words[2] * 8;     /* of 512 bytes */
     if (nested_host_has_folders() && nested_host_name(HOST_DESCRIPTOR, nested_digits((unsigned)fd, digits), name) != 0)

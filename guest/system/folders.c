@@ -1,6 +1,6 @@
 /*
  * Folders, which a host answers by files: one lists a folder, one tells what a name stands for, and a name with a slash behind it stands for a folder
- * that is made, removed or renamed. Without such a host there are none, and these fail with ENOSYS.
+ * that is made, removed or renamed. Without such a host there are none, and these fail with ENOSYS; those that are there all the same can be opened.
  */
 #include "call.h"
 #include "host.h"
@@ -59,16 +59,10 @@ void nested_set_folder_path(int fd, char *path)
     paths[fd] = path;
 }
 
-int nested_open_folder(const char *path, const char *name)
+int nested_open_list(const char *name)
 {
-    char whole[NAME_BYTES], own[PATH_MAX];
-    long fd;
-    if (nested_host_name(HOST_LIST, name, whole) == 0 || nested_whole_path(path, own) < 0)
-        return -1;
-    fd = nested_answer(nested_call(CALL_OPEN, (long)whole, O_RDONLY, 0));
-    if (fd >= 0)
-        nested_set_folder_path((int)fd, strdup(own));
-    return (int)fd;
+    char whole[NAME_BYTES];
+    return nested_host_name(HOST_LIST, name, whole) != 0 ? (int)nested_answer(nested_call(CALL_OPEN, (long)whole, O_RDONLY, 0)) : -1;
 }
 
 /* ---- lists: each name has a byte before it that tells its kind, and a zero behind it */
@@ -101,7 +95,10 @@ static int read_list(DIR *folder)
 
 DIR *fdopendir(int fd)
 {
-    DIR *made = nested_folder_path(fd) != 0 ? calloc(1, sizeof *made) : 0;
+    DIR *made;
+    if (nested_folder_path(fd) == 0)
+        return 0;
+    made = nested_host_has_folders() ? calloc(1, sizeof *made) : (nested_missing(), (DIR *)0);
     if (made == 0)
         return 0;
     made->fd = fd;
