@@ -1,24 +1,22 @@
 //! Classes of code.
-ghost use Rattle.std.specs.Prelude.{◌≡◌, ◌+◌, ◌*◌, ◌≤◌, ◌<◌, ◌^◌, ◌∷◌, ◌++◌, [], All, IfOk, OnOk, length, sum_by};
-ghost use Rattle.emit_steps.specs.Widths.{size};
-ghost use Rattle.translate_classes.specs.Parts.{IsCode, IsSpan};
+ghost use Rattle.std.specs.Prelude.{◌≡◌, ◌+◌, ◌*◌, ◌≤◌, ◌<◌, ◌^◌, ◌∷◌, ◌++◌, [], All, IfOk, OnOk, length};
 ghost use Rattle.emit_methods_laws.specs.Naming.{fields_of};
+ghost use Rattle.translate_classes.specs.Parts.{IsCode};
 ghost use Rattle.translate_classes.specs.Making.{AddsMethods};
 ghost use Rattle.translate_classes.specs.Tables.{references_of};
-ghost use Rattle.translate_classes.specs.Code.{IsCodeClass, code_of_span, run_plan, span_plans};
+ghost use Rattle.translate_classes.specs.Code.{IsCodeClass, run_plan, span_plans};
 ghost use Rattle.translate_classes.specs.Blocks.{pieces_of_class};
 
 use crate::NoMemory;
 use crate::code_naming::named_class;
+use crate::divided_part::DividedPart;
 use crate::names::Names;
 use crate::other_class::OtherClass;
-use crate::part::Part;
 use crate::piece::Piece;
 use crate::running::add_run;
 use crate::spans::add_spans;
 use emit_classes::ClassBuilder;
 use jvm_definition::Sequence;
-use method_splitter::Span;
 use nv_values::ClassName;
 use std::alloc::Global;
 
@@ -38,32 +36,27 @@ pub fn code_class(
     alloc: Global,
     main: &ClassName,
     number: u32,
-    part: &Part,
-    spans: &[Span],
+    divided: &DividedPart<'_>,
     first_method: u32,
 ) -> Result<CodeClass, NoMemory>
     requires number { number < 2 ^ 15 }
-    requires code { IsCode part.now.units.now }
-    requires spans { All (IsSpan part.now.words) spans.now }
-    requires some { 1 ≤ length spans.now }
-    requires few { length spans.now ≤ 879 }
-    requires words { sum_by (λ s. s.words) spans.now ≤ 6144 }
-    requires sizes { All (λ s. size (code_of_span part.now s) ≤ 65535) spans.now }
-    requires methods { first_method + length spans.now < 2 ^ 32 }
-    ensures class { IfOk result (λ made.
-        IsCodeClass main.now number part.now spans.now first_method made.bytes.items) }
-    ensures pieces { IfOk result (λ made. made.pieces.items ≡ pieces_of_class part.now spans.now) }
+    requires code { IsCode divided.now.part.now.units.now }
+    requires methods { first_method + length divided.now.spans.now < 2 ^ 32 }
+    ensures class { IfOk result (λ made. IsCodeClass main.now number divided.now.part.now
+        divided.now.spans.now first_method made.bytes.items) }
+    ensures pieces { IfOk result (λ made. made.pieces.items
+        ≡ pieces_of_class divided.now.part.now divided.now.spans.now) }
     ensures pieces_within { IfOk result (λ made.
-        All (λ p. p.span < length spans.now) made.pieces.items) }
+        All (λ p. p.span < length divided.now.spans.now) made.pieces.items) }
 {
+    let DividedPart { part, spans } = *divided;
     let name = OtherClass::Code.name(alloc, main, number)?;
     let named = named_class(alloc, name.as_str(), main, part.metered, spans.len() as u32)?;
     let mut class = named.class;
     let pieces = add_methods(
         alloc,
         &mut class,
-        part,
-        spans,
+        divided,
         first_method,
         named.names,
         named.helpers,
@@ -77,32 +70,28 @@ pub fn code_class(
 fn add_methods(
     alloc: Global,
     class: &mut ClassBuilder,
-    part: &Part,
-    spans: &[Span],
+    divided: &DividedPart<'_>,
     first_method: u32,
     names: Names,
     helpers: Vec<u16>,
     own_methods: Vec<u16>,
 ) -> Result<Vec<Piece>, NoMemory>
-    requires code { IsCode part.now.units.now }
-    requires spans { All (IsSpan part.now.words) spans.now }
-    requires some { 1 ≤ length spans.now }
-    requires few { length spans.now ≤ 879 }
-    requires words { sum_by (λ s. s.words) spans.now ≤ 6144 }
-    requires sizes { All (λ s. size (code_of_span part.now s) ≤ 65535) spans.now }
-    requires methods { first_method + length spans.now < 2 ^ 32 }
-    requires fields { length names.fields.items ≡ fields_of part.now.metered }
+    requires code { IsCode divided.now.part.now.units.now }
+    requires methods { first_method + length divided.now.spans.now < 2 ^ 32 }
+    requires fields { length names.fields.items ≡ fields_of divided.now.part.now.metered }
     requires helpers { length helpers.items ≡ 20 }
-    requires own { length own_methods.items ≡ length spans.now }
+    requires own { length own_methods.items ≡ length divided.now.spans.now }
     requires none { class.old.methods ≡ [] }
-    requires room { length class.old.pool ≤ 267 + 4 * length spans.now }
+    requires room { length class.old.pool ≤ 267 + 4 * length divided.now.spans.now }
     ensures methods { OnOk result (AddsMethods class.old class.new
-        (span_plans part.now spans.now (references_of names 0 helpers.items) (length spans.now)
-        ++ run_plan part.now spans.now first_method
+        (span_plans divided.now.part.now divided.now.spans.now
+        (references_of names 0 helpers.items) (length divided.now.spans.now)
+        ++ run_plan divided.now.part.now divided.now.spans.now first_method
         (references_of names first_method own_methods.items) ∷ [])) }
     ensures pieces { IfOk result (λ pieces. pieces.items
-        ≡ pieces_of_class part.now spans.now) }
+        ≡ pieces_of_class divided.now.part.now divided.now.spans.now) }
 {
+    let DividedPart { part, spans } = *divided;
     let mut references = names.with_methods(0, helpers);
     let pieces = add_spans(alloc, class, part, spans, &references)?;
     references.first_method = first_method;

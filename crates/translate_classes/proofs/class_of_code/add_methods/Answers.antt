@@ -10,8 +10,8 @@ use Rattle.translate_classes.proofs.class_of_code.add_methods.Goals as goal
 
 pub returns-clause-methods : goal.returns-clause-methods
 returns-clause-methods c =
-    let part = c.args.part.now in
-    let spans = c.args.spans.now in
+    let part = c.args.divided.now.part.now in
+    let spans = c.args.divided.now.spans.now in
     let names = c.args.names in
     let old = c.args.class.now in
     let middle = c.add_spans.new.class in
@@ -33,7 +33,7 @@ returns-clause-methods c =
 pub add_spans-requires-clause-references : goal.add_spans-requires-clause-references
 add_spans-requires-clause-references c =
     subst HasHelpers (sym c.with_methods-references.ensures) (record {
-      fields = omega (arith, all-fields c.args.part.now.metered, c.requires.fields);
+      fields = omega (arith, all-fields c.args.divided.now.part.now.metered, c.requires.fields);
       first = refl;
       helpers = omega (arith, c.requires.helpers);
     })
@@ -43,7 +43,7 @@ add_spans-requires-clause-fields c =
     omega (arith, ap (λ (r : References). length r.fields) c.with_methods-references.ensures, c.requires.fields)
 
 pub add_spans-requires-clause-room : goal.add_spans-requires-clause-room
-add_spans-requires-clause-room c = omega (arith, c.requires.room, c.requires.few, c.requires.words)
+add_spans-requires-clause-room c = omega (arith, c.requires.room, c.args.divided.now.few, c.args.divided.now.few_words)
 
 pub add_run-requires-clause-fields : goal.add_run-requires-clause-fields
 add_run-requires-clause-fields c =
@@ -51,7 +51,7 @@ add_run-requires-clause-fields c =
       arith,
       ap (λ (r : References). length r.fields) c.with_methods-references.ensures,
       c.requires.fields,
-      all-fields c.args.part.now.metered,
+      all-fields c.args.divided.now.part.now.metered,
     )
 
 pub add_run-requires-clause-count : goal.add_run-requires-clause-count
@@ -59,17 +59,17 @@ add_run-requires-clause-count c = ap length c.new.ensures ∙ c.requires.own
 
 pub add_run-requires-clause-few_methods : goal.add_run-requires-clause-few_methods
 add_run-requires-clause-few_methods c =
-    let part = c.args.part.now in
-    let spans = c.args.spans.now in
+    let part = c.args.divided.now.part.now in
+    let spans = c.args.divided.now.spans.now in
     let r = c.with_methods-references.result in
     omega (
       arith,
       adds-count c.args.class.now c.add_spans.new.class (span_plans part spans r (length spans)) c.in_ok-pieces.ensures.methods,
       plans-count (span_plan part spans r) (length spans),
       ap length c.requires.none,
-      c.requires.few,
+      c.args.divided.now.few,
     )
 
 pub add_run-requires-clause-room : goal.add_run-requires-clause-room
 add_run-requires-clause-room c =
-    omega (arith, c.requires.room, c.in_ok-pieces.ensures.few, c.requires.few, c.requires.words)
+    omega (arith, c.requires.room, c.in_ok-pieces.ensures.few, c.args.divided.now.few, c.args.divided.now.few_words)

@@ -18,8 +18,8 @@ use Rattle.translate_classes.proofs.class_of_code.code_class.Goals as goal
 
 pub returns-clause-class : goal.returns-clause-class
 returns-clause-class c =
-    let part = c.args.part.now in
-    let spans = c.args.spans.now in
+    let part = c.args.divided.now.part.now in
+    let spans = c.args.divided.now.spans.now in
     let named = c.in_ok-named.named in
     let told = c.in_ok-named.ensures.names in
     let final = c.add_methods.new.class in
@@ -51,8 +51,8 @@ returns-clause-class c =
 
 pub returns-clause-pieces_within : goal.returns-clause-pieces_within
 returns-clause-pieces_within c =
-    let spans = c.args.spans.now in
-    subst (All (λ p. p.span < length spans)) (sym c.in_ok-pieces.ensures.pieces) (pieces-numbered c.args.part.now spans)
+    let spans = c.args.divided.now.spans.now in
+    subst (All (λ p. p.span < length spans)) (sym c.in_ok-pieces.ensures.pieces) (pieces-numbered c.args.divided.now.part.now spans)
 
 pub named_class-requires-clause-name : goal.named_class-requires-clause-name
 named_class-requires-clause-name c =
