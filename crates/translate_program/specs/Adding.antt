@@ -12,7 +12,7 @@ use Rattle.translate_program.specs.declared.code_files.Code.{Code}
 use Rattle.translate_program.specs.Spans.{AreSpans}
 use Rattle.translate_program.specs.Places.{Place}
 use Rattle.translate_program.specs.Classes.{Placed, run_of, methods_behind, ArePlaced, AreCodeClasses, IsCodeFile, starts_of_class, starts_of, spans_of_class, spans_of}
-use Rattle.translate_program.specs.Blocks.{blocks_of_class, blocks_of, if_listed}
+use Rattle.translate_program.specs.Blocks.{blocks_of_class, blocks_of, told_of}
 
 -- the class of these words, with numbers that are given
 pub record IsClassOf (method_bytes number first_method : ℕ) (part : Part) (c : Placed)
@@ -32,14 +32,14 @@ pub record IsFileOfCode (name : Text) (method_bytes number first_method : ℕ) (
   pub pieces_are : f.pieces.items ≡ pieces_of_class class.part class.spans
   pub run_is : f.run ≡ run_of class
 
--- what is told of classes: their files, where they begin, the numbers of their methods `run`, their spans, their blocks where these are listed,
+-- what is told of classes: their files, where they begin, the numbers of their methods `run`, their spans, their blocks where these are told,
 -- and how many methods there are
 pub record IsTold (name : Text) (classes : List Placed) (code : Code) : Type 0 where
   pub files_are : AllZip (IsCodeFile name) classes code.files.items
   pub starts_are : code.starts.items ≡ starts_of classes
   pub runs_are : code.runs.items ≡ map run_of classes
   pub spans_are : code.spans.items ≡ spans_of classes
-  pub blocks_are : code.blocks.items ≡ if_listed code.listed (blocks_of 0 classes)
+  pub blocks_are : code.blocks.items ≡ told_of code.told (blocks_of 0 classes)
   pub methods_are : code.methods ≡ methods_behind main_methods classes
 
 -- the same with one class more
@@ -52,9 +52,9 @@ pub record AddsClass (name : Text) (method_bytes : ℕ) (part : Part) (old new :
   pub starts_are : new.starts.items ≡ old.starts.items ++ starts_of_class class
   pub runs_are : new.runs.items ≡ old.runs.items ++ run_of class ∷ []
   pub spans_are : new.spans.items ≡ old.spans.items ++ spans_of_class class
-  pub listed_is : new.listed ≡ old.listed
+  pub told_is : new.told ≡ old.told
   pub blocks_are : new.blocks.items ≡ old.blocks.items
-      ++ if_listed old.listed (blocks_of_class (length old.spans.items) class)
+      ++ told_of old.told (blocks_of_class (length old.spans.items) class)
   pub methods_are : new.methods ≡ run_of class + 1
 
 -- the classes so far have few spans each, and the program has few methods

@@ -1,8 +1,10 @@
 -- The blocks of a translation: the pieces of its classes of code, with the numbers that their spans have in the layout.
-use Rattle.std.specs.Prelude.{ℕ, ◌+◌, Bool, true, false, List, [], ◌∷◌, ◌++◌, map, length}
+use Rattle.std.specs.Prelude.{ℕ, ◌+◌, List, [], ◌∷◌, ◌++◌, map, length}
 use Rattle.translate_classes.specs.declared.piece.Piece.{Piece}
 use Rattle.translate_classes.specs.Blocks.{pieces_of_class}
 use Rattle.translate_program.specs.declared.block_info.BlockInfo.{BlockInfo}
+use Rattle.translate_program.specs.declared.told_blocks.ToldBlocks.{ToldBlocks}
+use Rattle.translate_program.specs.declared.told_blocks.ToldBlocks.TheVariants.{Listed, Omitted}
 use Rattle.translate_program.specs.Classes.{Placed}
 
 -- a piece of a class, behind so many spans of other classes
@@ -24,7 +26,7 @@ blocks_of before [] = []
 blocks_of before (c ∷ classes) = blocks_of_class before c
     ++ blocks_of (before + length c.spans) classes
 
--- those that are listed: all of them, or none
-abbrev pub if_listed : Bool → List BlockInfo → List BlockInfo
-if_listed true blocks = blocks
-if_listed false blocks = []
+-- those that are told: all of them, or none
+abbrev pub told_of : ToldBlocks → List BlockInfo → List BlockInfo
+told_of Listed blocks = blocks
+told_of Omitted blocks = []

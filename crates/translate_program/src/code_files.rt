@@ -6,7 +6,7 @@ ghost use Rattle.translate_program.specs.Places.{Place, class_words, places_in};
 ghost use Rattle.translate_program.specs.Classes.{starts_at};
 ghost use Rattle.translate_program.specs.Parts.{IsLow};
 ghost use Rattle.translate_program.specs.Ranges.{AreRangesOf, IsRangeOf, range_of};
-ghost use Rattle.translate_program.specs.Blocks.{block_of, if_listed};
+ghost use Rattle.translate_program.specs.Blocks.{block_of, told_of};
 ghost use Rattle.translate_program.specs.Adding.{AddsClass, HasFew, HasPlaces, IsCodeOf};
 
 use crate::NoMemory;
@@ -17,6 +17,7 @@ use crate::named_file::NamedFile;
 use crate::parts::{keep_part, part_at, part_count};
 use crate::ranges::Ranges;
 use crate::span_info::SpanInfo;
+use crate::told_blocks::ToldBlocks;
 use elf_image_parts::RangeCode;
 use emit_layout::METHODS;
 use nv_values::{ClassName, MethodBytes};
@@ -29,10 +30,10 @@ use translate_classes::Part;
 pub struct Code {
     pub files: Vec<NamedFile>,
     pub spans: Vec<SpanInfo>,
-    /// The blocks, if they are listed; else none.
+    /// The blocks that are told.
     pub blocks: Vec<BlockInfo>,
-    /// Whether the blocks are listed.
-    pub listed: bool,
+    /// Whether they are.
+    pub told: ToldBlocks,
     /// Where each class begins, by the number of its method `run()V`, and where each range ends, by the number of `missing()V`.
     pub starts: Vec<Start>,
     /// The number of the method `run()V` of each class.
@@ -43,7 +44,7 @@ pub struct Code {
 
 /// All classes of code of an image, for the program whose main class is called `name`: 1 to 235. The code of each span's method has at most
 /// `method_bytes` bytes by its words' weights. With a meter each unit's turns are taken off before it. Each range is let go once its classes
-/// are made. If the blocks are not listed, they take no memory.
+/// are made.
 ///
 /// # Errors
 /// Out of memory for the classes.
@@ -53,11 +54,11 @@ pub fn code_of(
     name: &ClassName,
     method_bytes: MethodBytes,
     metered: bool,
-    listed: bool,
+    told: ToldBlocks,
 ) -> Result<Code, NoMemory>
     requires { AreRangesOf ranges.image.value ranges.items.items }
     ensures code { IfOk result (IsCodeOf metered ranges.image.value name.now method_bytes) }
-    ensures listed { IfOk result (λ code. code.listed ≡ listed) }
+    ensures told { IfOk result (λ code. code.told ≡ told) }
     ensures some { IfOk result (λ code. 1 ≤ length code.files.items) }
     ensures few { IfOk result (λ code. length code.files.items ≤ 235) }
     ensures methods { IfOk result (λ code. code.methods < 2 ^ 31) }
@@ -66,7 +67,7 @@ pub fn code_of(
         files: Vec::new(alloc),
         spans: Vec::new(alloc),
         blocks: Vec::new(alloc),
-        listed,
+        told,
         starts: Vec::new(alloc),
         runs: Vec::new(alloc),
         methods: METHODS,
@@ -92,7 +93,7 @@ fn add_range(
         ≤ 235 }
     requires few { HasFew code.old }
     ensures few { OnOk result (HasFew code.new) }
-    ensures listed { OnOk result (code.new.listed ≡ code.old.listed) }
+    ensures told { OnOk result (code.new.told ≡ code.old.told) }
     ensures places { OnOk result ((words : ℕ → Option ℕ) (places : List Place)
         → IsRangeOf words range
         → HasPlaces metered words name.now method_bytes places code.old
@@ -148,18 +149,13 @@ fn add_file(code: &mut Code, part: &Part, file: FileOfCode) -> Result<(), NoMemo
     ensures runs { OnOk result (code.new.runs.items ≡ code.old.runs.items ++ file.run ∷ []) }
     ensures spans { OnOk result (code.new.spans.items ≡ code.old.spans.items ++ file.spans.items) }
     ensures blocks { OnOk result (code.new.blocks.items ≡ code.old.blocks.items
-        ++ if_listed code.old.listed
+        ++ told_of code.old.told
         (map (block_of (length code.old.spans.items)) file.pieces.items)) }
-    ensures listed { OnOk result (code.new.listed ≡ code.old.listed) }
+    ensures told { OnOk result (code.new.told ≡ code.old.told) }
     ensures methods { OnOk result (code.new.methods ≡ file.run + 1) }
 {
     let before = code.spans.len() as u32;
-    list_blocks(
-        code.listed,
-        &mut code.blocks,
-        before,
-        file.pieces.as_slice(),
-    )?;
+    list_blocks(code.told, &mut code.blocks, before, file.pieces.as_slice())?;
     let mut spans = file.spans;
     code.spans.append(&mut spans)?;
     add_starts(&mut code.starts, part, file.run)?;

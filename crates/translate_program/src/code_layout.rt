@@ -1,17 +1,18 @@
 //! Where the words of classes are.
 ghost use Rattle.std.specs.Prelude.{◌≡◌, ◌+◌, ◌<◌, ◌^◌, ◌++◌, All, OnOk, map};
-ghost use Rattle.translate_program.specs.Blocks.{block_of, if_listed};
+ghost use Rattle.translate_program.specs.Blocks.{block_of, told_of};
 ghost use Rattle.translate_program.specs.Classes.{starts_at};
 
 use crate::NoMemory;
 use crate::block_info::BlockInfo;
+use crate::told_blocks::ToldBlocks;
 use emit_layout::MISSING;
 use trampoline::Start;
 use translate_classes::{Part, Piece};
 
-/// The pieces of a class as blocks after those of others, which have so many spans, where blocks are listed.
+/// The pieces of a class as blocks after those of others, which have so many spans, where these are told.
 pub fn list_blocks(
-    listed: bool,
+    told: ToldBlocks,
     blocks: &mut Vec<BlockInfo>,
     before: u32,
     pieces: &[Piece],
@@ -19,12 +20,11 @@ pub fn list_blocks(
     requires low { before < 2 ^ 31 }
     requires spans { All (λ p. p.span < 2048) pieces.now }
     ensures { OnOk result (blocks.new.items ≡ blocks.old.items
-        ++ if_listed listed (map (block_of before) pieces.now)) }
+        ++ told_of told (map (block_of before) pieces.now)) }
 {
-    if listed {
-        add_blocks(blocks, before, pieces)
-    } else {
-        Ok(())
+    match told {
+        ToldBlocks::Listed => add_blocks(blocks, before, pieces),
+        ToldBlocks::Omitted => Ok(()),
     }
 }
 

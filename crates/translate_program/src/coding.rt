@@ -12,7 +12,7 @@ use emit_layout::{code_class_name, file_name};
 use method_splitter::Span;
 use nv_values::{ClassName, MethodBytes};
 use std::alloc::Global;
-use translate_classes::{Part, Piece, code_class};
+use translate_classes::{DividedPart, Part, Piece, code_class};
 
 /// A class of code as a file, and where its words are.
 #[derive(Drop)]
@@ -47,7 +47,11 @@ pub fn code_file(
     let spans = spans_of(alloc, part, method_bytes)?;
     let number = classes as u32;
     let run = first_method + spans.as_slice().len() as u32;
-    let made = code_class(alloc, name, number, part, spans.as_slice(), first_method)?;
+    let divided = DividedPart {
+        part: &*part,
+        spans: spans.as_slice(),
+    };
+    let made = code_class(alloc, name, number, &divided, first_method)?;
     let infos = span_infos(alloc, part, number, spans.as_slice())?;
     let class_name = code_class_name(alloc, name.as_str(), number)?;
     let file_name = file_name(alloc, class_name.as_str())?;

@@ -20,6 +20,7 @@ mod ranges;
 mod span_info;
 mod spans;
 mod taking;
+mod told_blocks;
 mod translation;
 
 pub use block_info::BlockInfo;

@@ -1,5 +1,6 @@
-ghost use Rattle.std.specs.Prelude.{◌≡◌, ◌∷◌, ◌++◌, true, IfOk, None, Some, is_some};
+ghost use Rattle.std.specs.Prelude.{◌≡◌, ◌∷◌, ◌++◌, IfOk, None, Some, is_some};
 ghost use Rattle.translate_program.specs.Taking.{IsTaken};
+ghost use Rattle.translate_program.specs.declared.told_blocks.ToldBlocks.TheVariants.{Listed};
 ghost use Rattle.translate_program.specs.Translation.{AreFilesOf, IsTranslation, IsTranslationBy};
 
 use crate::NoMemory;
@@ -9,6 +10,7 @@ use crate::layout::Layout;
 use crate::main_file::main_file;
 use crate::named_file::NamedFile;
 use crate::taking::{Taken, taken_from, taken_of};
+use crate::told_blocks::ToldBlocks;
 use elf_image::Image;
 use nv_values::{ClassName, MeterTurns, MethodBytes};
 use std::alloc::Global;
@@ -49,7 +51,7 @@ pub fn translate_metered(
     translated(alloc, image, name, method_bytes, Some(turns))
 }
 
-/// The files of the classes of a program, as `translate` gives them. Its blocks are not listed, and its image is let go before its code is
+/// The files of the classes of a program, as `translate` gives them. Where its blocks are is not told, and its image is let go before its code is
 /// made: so both take no memory beside that code.
 ///
 /// # Errors
@@ -94,7 +96,7 @@ fn translated(
     ensures { IfOk result (IsTranslationBy meter image.now name.now method_bytes) }
 {
     let taken = taken_of(alloc, image, name, method_bytes, meter.is_some())?;
-    built_of(alloc, taken, name, method_bytes, meter, true)
+    built_of(alloc, taken, name, method_bytes, meter, ToldBlocks::Listed)
 }
 
 // Their files.
@@ -108,21 +110,21 @@ fn translated_files(
     ensures { IfOk result (λ files. AreFilesOf meter image name.now method_bytes files.items) }
 {
     let taken = taken_from(alloc, image, name, method_bytes, meter.is_some())?;
-    let built = built_of(alloc, taken, name, method_bytes, meter, false)?;
+    let built = built_of(alloc, taken, name, method_bytes, meter, ToldBlocks::Omitted)?;
     Ok(built.files)
 }
 
-// The classes of the program of which this was taken. Where its blocks are not listed, the layout has none.
+// The classes of the program of which this was taken. Where its blocks are not told, the layout has none.
 fn built_of(
     alloc: Global,
     taken: Taken,
     name: &ClassName,
     method_bytes: MethodBytes,
     meter: Option<MeterTurns>,
-    listed: bool,
+    told: ToldBlocks,
 ) -> Result<Built, NoMemory>
     requires { IsTaken (is_some meter) name.now method_bytes taken }
-    ensures listed { listed ≡ true → IfOk result
+    ensures told { told ≡ Listed → IfOk result
         (IsTranslationBy meter taken.ranges.image.value name.now method_bytes) }
     ensures files { IfOk result (λ built.
         AreFilesOf meter taken.ranges.image.value name.now method_bytes built.files.items) }
@@ -133,7 +135,7 @@ fn built_of(
         stored,
         need,
     } = taken;
-    let code = code_of(alloc, ranges, name, method_bytes, meter.is_some(), listed)?;
+    let code = code_of(alloc, ranges, name, method_bytes, meter.is_some(), told)?;
     let main = main_file(alloc, &head, name, meter, &code, &stored)?;
     let files = files_of(alloc, main, code.files, stored.files)?;
     Ok(Built {

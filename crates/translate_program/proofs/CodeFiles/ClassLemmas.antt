@@ -1,5 +1,5 @@
 -- The classes of code so far, and one more.
-use Rattle.std.proofs.Common.{◌≡◌, ℕ, Bool, true, false, ◌+◌, List, [], ◌∷◌, ◌++◌, length, Option, refl, ap, sym, ◌∙◌, arith, subst}
+use Rattle.std.proofs.Common.{◌≡◌, ℕ, Bool, ◌+◌, List, [], ◌∷◌, ◌++◌, length, Option, refl, ap, sym, ◌∙◌, arith, subst}
 use Rattle.std.specs.List.{AllZip}
 use Rattle.std.proofs.lemmas.List.{map_push, flat_map_more, length_push}
 use Rattle.std.proofs.lemmas.Slice.Zip.{all_zipped_more, AllZip-long}
@@ -9,9 +9,11 @@ use Rattle.translate_classes.specs.declared.part.Part.{Part}
 use Rattle.translate_program.specs.declared.block_info.BlockInfo.{BlockInfo}
 use Rattle.translate_program.specs.declared.code_files.Code.{Code}
 use Rattle.translate_program.specs.declared.counting.CodeCounts.{CodeCounts}
+use Rattle.translate_program.specs.declared.told_blocks.ToldBlocks.{ToldBlocks}
+use Rattle.translate_program.specs.declared.told_blocks.ToldBlocks.TheVariants.{Listed, Omitted}
 use Rattle.translate_program.specs.Places.{Place, IsPartAt}
 use Rattle.translate_program.specs.Classes.{Placed, Follow, run_of, methods_behind, IsPlaced, ArePlaced, IsCodeFile, starts_of_class, spans_of_class}
-use Rattle.translate_program.specs.Blocks.{blocks_of_class, blocks_of, if_listed}
+use Rattle.translate_program.specs.Blocks.{blocks_of_class, blocks_of, told_of}
 use Rattle.translate_program.specs.Adding.{IsClassOf, IsTold, AddsClass, HasPlaces}
 use Rattle.translate_program.specs.Counting.{CountsClass, CountsPlaces}
 use Rattle.translate_program.proofs.CodeFiles.BlockLemmas.{blocks-push}
@@ -69,9 +71,9 @@ count-more metered code method_bytes part old new places place counts flag is ha
 
 -- ---- classes that are made
 
-no-blocks : (listed : Bool) → [] ≡ if_listed listed []
-no-blocks true = refl
-no-blocks false = refl
+no-blocks : (told : ToldBlocks) → [] ≡ told_of told []
+no-blocks Listed = refl
+no-blocks Omitted = refl
 
 pub no-places : (metered : Bool) (code : ℕ → Option ℕ) (name : Text) (method_bytes : ℕ) (c : Code) → c.files.items ≡ [] → c.starts.items ≡ [] → c.runs.items ≡ []
     → c.spans.items ≡ [] → c.blocks.items ≡ [] → c.methods ≡ main_methods → HasPlaces metered code name method_bytes [] c
@@ -83,14 +85,14 @@ no-places metered code name method_bytes c files starts runs spans blocks method
     starts_are = starts;
     runs_are = runs;
     spans_are = spans;
-    blocks_are = blocks ∙ no-blocks c.listed;
+    blocks_are = blocks ∙ no-blocks c.told;
     methods_are = methods;
   };
 }
 
-listed-push : (listed : Bool) (before more : List BlockInfo) → if_listed listed before ++ if_listed listed more ≡ if_listed listed (before ++ more)
-listed-push true before more = refl
-listed-push false before more = refl
+told-push : (told : ToldBlocks) (before more : List BlockInfo) → told_of told before ++ told_of told more ≡ told_of told (before ++ more)
+told-push Listed before more = refl
+told-push Omitted before more = refl
 
 module _ (name : Text) (method_bytes : ℕ) (part : Part) (old new : Code) (adds : AddsClass name method_bytes part old new)
     (classes : List Placed) where
@@ -108,10 +110,10 @@ module _ (name : Text) (method_bytes : ℕ) (part : Part) (old new : Code) (adds
             adds.spans_are ∙ ap (λ l. l ++ spans_of_class adds.class) told.spans_are ∙ flat_map_more spans_of_class [] classes adds.class;
         blocks_are =
             adds.blocks_are
-            ∙ ap (λ l. l ++ if_listed old.listed own) told.blocks_are
-            ∙ listed-push old.listed (blocks_of 0 classes) own
-            ∙ ap (if_listed old.listed) (sym (blocks-push 0 classes adds.class (length old.spans.items) (omega (arith, ap length told.spans_are))))
-            ∙ ap (λ l. if_listed l (blocks_of 0 (classes ++ adds.class ∷ []))) (sym adds.listed_is);
+            ∙ ap (λ l. l ++ told_of old.told own) told.blocks_are
+            ∙ told-push old.told (blocks_of 0 classes) own
+            ∙ ap (told_of old.told) (sym (blocks-push 0 classes adds.class (length old.spans.items) (omega (arith, ap length told.spans_are))))
+            ∙ ap (λ l. told_of l (blocks_of 0 (classes ++ adds.class ∷ []))) (sym adds.told_is);
         methods_are = adds.methods_are ∙ sym (behind-push main_methods classes adds.class);
       }
 

@@ -1,7 +1,7 @@
 use Rattle.std.proofs.Common.{◌≡◌, ◌+◌, ◌++◌, ◌∷◌, [], length, map, ap, sym, ◌∙◌, arith, length-append}
 use Rattle.std.proofs.lemmas.List.{length_push}
 use Rattle.translate_program.specs.Classes.{run_of, starts_at}
-use Rattle.translate_program.specs.Blocks.{block_of, if_listed}
+use Rattle.translate_program.specs.Blocks.{block_of, told_of}
 use Rattle.translate_program.proofs.code_files.add_class.Goals as goal
 
 pub returns-clause-added : goal.returns-clause-added
@@ -24,9 +24,9 @@ returns-clause-added c =
           ∙ ap (λ part. old.starts.items ++ starts_at part (run_of class)) (sym is.part_is);
       runs_are = added.runs ∙ ap (λ run. old.runs.items ++ run ∷ []) made.run_is;
       spans_are = added.spans ∙ ap (λ l. old.spans.items ++ l) made.spans_are;
-      listed_is = added.listed;
+      told_is = added.told;
       blocks_are =
-          added.blocks ∙ ap (λ l. old.blocks.items ++ if_listed old.listed (map (block_of (length old.spans.items)) l)) made.pieces_are;
+          added.blocks ∙ ap (λ l. old.blocks.items ++ told_of old.told (map (block_of (length old.spans.items)) l)) made.pieces_are;
       methods_are = added.methods ∙ ap (λ run. run + 1) made.run_is;
     }
 

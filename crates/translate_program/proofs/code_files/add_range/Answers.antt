@@ -37,7 +37,7 @@ loop-k-init c = record {
   places = λ words places own has.
       subst (λ l. HasPlaces c.args.metered words c.args.name.now c.args.method_bytes l c.args.code.now) (sym (append-nil places)) has;
   few = c.requires.few;
-  listed = refl;
+  told = refl;
   count = omega arith;
   units = refl;
   leads = refl;
@@ -65,7 +65,7 @@ loop-k-preserved c =
           (part-at c.args.metered words (range_of range) new k part (kept-coded words (range_of range) range new units leads own.coded) start is)
           (c.loop-k.invariant.places words places own has));
       few = c.in_ok-add_class.ensures.few;
-      listed = added.listed_is ∙ c.loop-k.invariant.listed;
+      told = added.told_is ∙ c.loop-k.invariant.told;
       count = omega (arith, ap length added.files_are, length_push c.loop-k.code.files.items added.file, c.loop-k.invariant.count);
       units = units;
       leads = leads;

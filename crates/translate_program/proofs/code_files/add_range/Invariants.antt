@@ -10,7 +10,7 @@ invariant-loop-k l = record {
       → HasPlaces l.metered words l.name l.method_bytes places l.fn.code
       → HasPlaces l.metered words l.name l.method_bytes (places ++ first_places (range_of l.fn.range) l.k) l.code;
   few : HasFew l.code;
-  listed : l.code.listed ≡ l.fn.code.listed;
+  told : l.code.told ≡ l.fn.code.told;
   count : length l.code.files.items ≡ length l.fn.code.files.items + l.k;
   units : l.kept.units ≡ l.fn.range.units;
   leads : l.kept.leads ≡ l.fn.range.leads;

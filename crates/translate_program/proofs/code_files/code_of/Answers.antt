@@ -23,7 +23,7 @@ loop-range-init c = record {
     spans = omega (arith, ap length c.new-2.ensures.items);
     methods = omega arith;
   };
-  listed = refl;
+  told = refl;
 }
 
 pub add_range-requires : goal.add_range-requires
@@ -73,7 +73,7 @@ loop-range-preserved c =
           subst (λ places. HasPlaces c.args.metered code c.args.name.now c.args.method_bytes places c.add_range.new.code) (sym (places-push told range))
           (added.places code (places_of (map range_of told)) own c.loop-range.invariant.places);
       few = added.few;
-      listed = added.listed ∙ c.loop-range.invariant.listed;
+      told = added.told ∙ c.loop-range.invariant.told;
     }
 
 pub returns-clause-code : goal.returns-clause-code

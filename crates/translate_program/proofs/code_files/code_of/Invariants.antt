@@ -9,5 +9,5 @@ abbrev pub invariant-loop-range : goal.invariant-loop-range
 invariant-loop-range l = record {
   places : HasPlaces l.metered (image_of l.fn.ranges.image.value).code l.name l.method_bytes (places_of (map range_of l.yielded)) l.code;
   few : HasFew l.code;
-  listed : l.code.listed ≡ l.listed;
+  told : l.code.told ≡ l.fn.told;
 }

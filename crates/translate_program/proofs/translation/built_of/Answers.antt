@@ -9,7 +9,7 @@ use Rattle.trampoline.specs.declared.start.Start.{Start}
 use Rattle.translate_classes.specs.Content.{RiseFrom, behind}
 use Rattle.translate_program.specs.declared.built.Built.{Built}
 use Rattle.translate_program.specs.Adding.{IsCodeOf}
-use Rattle.translate_program.specs.Blocks.{blocks_of, if_listed}
+use Rattle.translate_program.specs.Blocks.{blocks_of, told_of}
 use Rattle.translate_program.specs.Classes.{AreCodeClasses, IsCodeFile, run_of}
 use Rattle.translate_program.specs.DataFiles.{class_count, filled_pages, fill_of}
 use Rattle.translate_program.specs.Places.{places_of}
@@ -55,8 +55,8 @@ main_file-requires c =
           (subst (λ fills. RiseFrom main_methods (map run_of classes ++ fills)) (sym stored.fills_are) rise);
     }
 
-pub returns-clause-listed : goal.returns-clause-listed
-returns-clause-listed c is =
+pub returns-clause-told : goal.returns-clause-told
+returns-clause-told c is =
     let taken = c.args.taken in
     let source = taken.ranges.image.value in
     let name = c.args.name.now in
@@ -67,7 +67,7 @@ returns-clause-listed c is =
     record { files = c.in_ok-files.files; layout = record { spans = code.spans; blocks = code.blocks; need = taken.need } } in
     translation-of c.args.meter source name method_bytes code taken.stored c.in_ok-main.main built coded c.in_ok-code.ensures.some
     (c.requires.data_is coded.classes coded.classes_are) (c.in_ok-main.ensures source c.requires.head_is) c.in_ok-files.ensures refl
-    (coded.told.blocks_are ∙ ap (λ listed. if_listed listed (blocks_of 0 coded.classes)) (c.in_ok-code.ensures.listed ∙ is)) c.requires.need_is
+    (coded.told.blocks_are ∙ ap (λ told. told_of told (blocks_of 0 coded.classes)) (c.in_ok-code.ensures.told ∙ is)) c.requires.need_is
 
 pub returns-clause-files : goal.returns-clause-files
 returns-clause-files c =
