@@ -6,6 +6,7 @@
 mod alike;
 mod calls;
 mod rows;
+mod translations;
 
 use nv_outside::FileShelf;
 use rows::Rows;

@@ -1,6 +1,7 @@
 //! The rows of the table.
 use crate::alike::push_alike;
 use crate::calls::{call, push_call, push_next, push_status};
+use crate::translations::translations_row;
 use anyhow::Result;
 use nested_cli::Done;
 use nv_outside::Shelf;
@@ -35,6 +36,7 @@ impl<H: Shelf> Rows<H> {
             "beside" => Ok(self.set(alloc, text, rest(row, 1))?),
             "command" => words_row(alloc, text, rest(row, 1)),
             "status" => Ok(status_row(text, row)?),
+            "translations" => translations_row(alloc, text, files, row),
             "folder" => folder_row(alloc, text, &mut self.folder, row),
             _ => self.push_calls(alloc, text, files, row),
         }
