@@ -1,14 +1,14 @@
 -- A free block is put behind a chain, with its first bytes.
-use Rattle.std.proofs.Common.{◌≡◌, ◌≢◌, ℕ, zero, suc, ◌+◌, ◌-◌, ◌/◌, ◌%◌, ◌<◌, ◌≤◌, List, length, get_or, set, Some, None, IsTrue, ltb, refl, ap, sym, ◌∙◌, subst, inl, inr, arith, unwrap_or, option_and_then}
+use Rattle.std.proofs.Common.{◌≡◌, ◌≢◌, ℕ, zero, suc, ◌+◌, ◌*◌, ◌-◌, ◌/◌, ◌%◌, ◌<◌, ◌≤◌, List, length, get_or, set, Some, None, IsTrue, ltb, refl, ap, sym, ◌∙◌, subst, inl, inr, arith, unwrap_or, option_and_then}
 use Rattle.std.specs.Option.{IsSome, is_none}
 use Rattle.std.proofs.lemmas.Bool.{cases_eq, cases_lt, false≢true, and_parts, ltb-true}
-use Rattle.std.proofs.lemmas.List.{get_or-set_same, get_or-set_other}
+use Rattle.std.proofs.lemmas.List.{get_or-set_same, get_or-set_other, length-replicate, get_or-replicate}
 use Rattle.block_pool.specs.Bytes.{zeros}
 use Rattle.block_pool.specs.Blocks.{Pool, IsSound, IsUsed, is_free, next_of, block_at, bytes_of, bytes_in, free_count, new_block, with_bytes, with_next}
 use Rattle.unix_definition.specs.Files.{blocks_for}
-use Rattle.unix_files.specs.Stored.{block_after, IsChain, Changes, blocks_in, block_in, byte_of, file_bytes, begun, overwritten}
+use Rattle.unix_files.specs.Stored.{block_after, IsChain, Changes, blocks_in, block_in, byte_of, file_bytes, begun, marked, overwritten}
 use Rattle.unix_files.specs.declared.chain.Chain.{Chain}
-use Rattle.unix_files.proofs.ChainLemmas.{block_after-start, block_after-suc}
+use Rattle.unix_files.proofs.ChainLemmas.{block_after-start, block_after-suc, length-marked, marked-other, marked-here}
 use Rattle.unix_files.proofs.LaidLemmas.{index-lt}
 use Rattle.unix_files.proofs.WriteLemmas.{at-with_block, other-with_block, bytes-put, overwritten-new}
 use Rattle.block_pool.proofs.PoolLemmas.{none-from_is_none}
@@ -63,6 +63,8 @@ module _ (p q : Pool) (c : Chain) (b : ℕ) (bs : List ℕ) (t : Taken p q b bs)
     last = λ some. let z : blocks_in first_chain - 1 ≡ 0 = let o = one in omega arith in sym (ap (block_after q b) z ∙ block_after-start q b);
     near_within = omega arith;
     near = sym (block_after-start q b);
+    marks_all = length-replicate 256 b;
+    marks = λ k few less. get_or-replicate 256 k b 0 few ∙ sym (only (256 * k) less);
   }
 
   pub begun-changes : IsSound q → free_count q + 1 ≡ free_count p → Changes p q c first_chain
@@ -106,7 +108,7 @@ appended p p2 last b bs t used =
     }
 
 abbrev pub longer : Chain → ℕ → ℕ → Chain
-longer c b n = record { first = c.first; last = b; near = b; near_index = c.size / 4096; size = c.size + n }
+longer c b n = record { first = c.first; last = b; near = b; near_index = c.size / 4096; marks = marked c.marks (c.size / 4096) b; size = c.size + n }
 
 module _ (p q : Pool) (c : Chain) (b : ℕ) (bs : List ℕ) (h : IsChain p c) (a : Appended p q c.last b bs) (some : 0 < c.size) (full : c.size % 4096 ≡ 0) (bytes_some : 0 < length bs) (fits : length bs ≤ 4096) where
   abbrev pub longer_chain : Chain
@@ -175,6 +177,13 @@ module _ (p q : Pool) (c : Chain) (b : ℕ) (bs : List ℕ) (h : IsChain p c) (a
     last = λ _. let e : old_blocks ≡ blocks_in longer_chain - 1 = omega arith in sym (ap (block_in q longer_chain) (sym e) ∙ new-block);
     near_within = omega arith;
     near = let e : c.size / 4096 ≡ old_blocks = omega arith in sym (ap (block_in q longer_chain) e ∙ new-block);
+    marks_all = length-marked c.marks (c.size / 4096) b ∙ h.marks_all;
+    marks = λ k few less. elim (cases_lt (256 * k) old_blocks) [
+      | inl old ↦ let other : 256 * k ≢ c.size / 4096 = λ e. absurd (omega arith) in
+          marked-other c.marks (c.size / 4096) b k other ∙ (h.marks k few old ∙ sym (old-block (256 * k) old))
+      | inr past ↦ let here : c.size / 4096 ≡ 256 * k = let m = one-more in omega arith in
+          marked-here c.marks (c.size / 4096) b k here (let a = h.marks_all in omega arith) ∙ sym (is-new (256 * k) less past)
+    ];
   }
 
   pub longer-changes : IsSound q → free_count q + 1 ≡ free_count p → Changes p q c longer_chain

@@ -9,11 +9,11 @@ use Rattle.unix_files.proofs.ChainLemmas.{block_after-start, block_after-add}
 use Rattle.unix_files.proofs.LaidLemmas.{KeepsChain, kept-chain, kept-bytes, kept-block}
 
 abbrev pub cut_to : Chain → ℕ → ℕ → Chain
-cut_to c last size = record { first = c.first; last = last; near = c.first; near_index = 0; size = size }
+cut_to c last size = record { first = c.first; last = last; near = c.first; near_index = 0; marks = c.marks; size = size }
 
 pub take-bytes : (p : Pool) (c d : Chain) → d.first ≡ c.first → d.size ≤ c.size → file_bytes p d ≡ take d.size (file_bytes p c)
 unfolding file_bytes
-take-bytes p c d first le = ap (λ f. file_bytes p (record { first = f; last = d.last; near = d.near; near_index = d.near_index; size = d.size })) first ∙ sym (take-map-range_with_len (byte_of p c) 0 c.size d.size le)
+take-bytes p c d first le = ap (λ f. file_bytes p (record { first = f; last = d.last; near = d.near; near_index = d.near_index; marks = d.marks; size = d.size })) first ∙ sym (take-map-range_with_len (byte_of p c) 0 c.size d.size le)
 
 module _ (p : Pool) (c : Chain) (size : ℕ) (h : IsChain p c) (fewer : blocks_for size < blocks_in c) where
   abbrev pub kept : ℕ
@@ -39,6 +39,8 @@ module _ (p q : Pool) (c : Chain) (size last : ℕ) (h : IsChain p c) (fewer : b
     last = end;
     near_within = omega arith;
     near = sym (block_after-start p c.first);
+    marks_all = h.marks_all;
+    marks = λ k few less. h.marks k few (omega arith);
   }
 
   keeps : KeepsChain p q (cut_to c last size)

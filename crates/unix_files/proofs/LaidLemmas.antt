@@ -1,5 +1,5 @@
 -- What stays of all chains where the blocks of one of them change.
-use Rattle.std.proofs.Common.{◌≡◌, ◌≢◌, ℕ, zero, suc, ◌+◌, ◌-◌, ◌/◌, ◌%◌, ◌<◌, ◌≤◌, List, [], ◌∷◌, map, length, get_or, set, replicate, cond, None, refl, ap, sym, ◌∙◌, subst, inl, inr, arith, unwrap_or, option_and_then}
+use Rattle.std.proofs.Common.{◌≡◌, ◌≢◌, ℕ, zero, suc, ◌+◌, ◌*◌, ◌-◌, ◌/◌, ◌%◌, ◌<◌, ◌≤◌, List, [], ◌∷◌, map, length, get_or, set, replicate, cond, None, refl, ap, sym, ◌∙◌, subst, inl, inr, arith, unwrap_or, option_and_then}
 use Rattle.std.specs.List.{range_with_len}
 use Rattle.std.specs.Option.{IsSome}
 use Rattle.std.specs.Option.{is_none}
@@ -7,7 +7,7 @@ use Rattle.std.proofs.Math.ListN.{get_or-map}
 use Rattle.std.proofs.Math.Seq.{map-set_same}
 use Rattle.std.proofs.lemmas.List.Folds.{sum_by-replicate}
 use Rattle.std.proofs.lemmas.Bool.{cases_eq}
-use Rattle.std.proofs.lemmas.List.{get_or-set_same, get_or-set_other, length-map}
+use Rattle.std.proofs.lemmas.List.{get_or-set_same, get_or-set_other, length-map, length-replicate}
 use Rattle.std.proofs.lemmas.List.FromFn.{length-map-range_with_len, get_or-map-range_with_len}
 use Rattle.block_pool.specs.Blocks.{Pool, IsSound, IsUsed, next_of, block_at, bytes_in, free_count, untouched}
 use Rattle.unix_definition.specs.Files.{blocks_for}
@@ -40,6 +40,8 @@ kept-chain p q c keeps h = record {
   last = λ some. h.last some ∙ sym (kept-block p q c keeps (blocks_in c - 1) (omega arith));
   near_within = h.near_within;
   near = h.near ∙ sym (kept-block p q c keeps c.near_index (let w = h.near_within in omega arith));
+  marks_all = h.marks_all;
+  marks = λ k few less. h.marks k few less ∙ sym (kept-block p q c keeps (256 * k) (omega arith));
 }
 
 pub map_range-cong : (f g : ℕ → ℕ) (a n : ℕ) → ((i : ℕ) → a ≤ i → i < a + n → f i ≡ g i) → map f (range_with_len a n) ≡ map g (range_with_len a n)
@@ -174,7 +176,7 @@ contents-set p q chains n d bytes h change is =
 
 -- a chain that looked up one of its blocks
 pub IsChain-looked_up : (p : Pool) (c : Chain) (k : ℕ) → IsChain p c → k < blocks_in c → IsChain p (looked_up p c k)
-IsChain-looked_up p c k h within = record { used = h.used; once = h.once; last = h.last; near_within = omega arith; near = refl }
+IsChain-looked_up p c k h within = record { used = h.used; once = h.once; last = h.last; near_within = omega arith; near = refl; marks_all = h.marks_all; marks = h.marks }
 
 pub Changes-looked_up : (p : Pool) (c : Chain) (k : ℕ) → IsSound p → IsChain p c → k < blocks_in c → Changes p p c (looked_up p c k)
 Changes-looked_up p c k sound h within = record {
@@ -203,6 +205,8 @@ IsChain-empty p = record {
   last = λ some. absurd (no_blocks 0 some);
   near_within = omega arith;
   near = sym (block_after-start p 0);
+  marks_all = let z : ℕ = 0 in length-replicate 256 z;
+  marks = λ k few less. absurd (no_blocks (256 * k) less);
 }
 
 pub IsLaid-empty : (p : Pool) (chains : List Chain) → IsSound p → ((n : ℕ) → chain_at chains n ≡ empty_chain) → IsLaid p chains

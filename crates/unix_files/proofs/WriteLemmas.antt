@@ -1,5 +1,5 @@
 -- How bytes that are written into a block, and a block that is put behind a chain, change a file.
-use Rattle.std.proofs.Common.{◌≡◌, ◌≢◌, ℕ, zero, suc, ◌+◌, ◌-◌, ◌/◌, ◌%◌, ◌<◌, ◌≤◌, List, ◌++◌, ◌⊎◌, map, length, take, drop, get_or, Option, Some, None, refl, ap, sym, ◌∙◌, subst, inl, inr, arith, unwrap_or, option_and_then}
+use Rattle.std.proofs.Common.{◌≡◌, ◌≢◌, ℕ, zero, suc, ◌+◌, ◌*◌, ◌-◌, ◌/◌, ◌%◌, ◌<◌, ◌≤◌, List, ◌++◌, ◌⊎◌, map, length, take, drop, get_or, Option, Some, None, refl, ap, sym, ◌∙◌, subst, inl, inr, arith, unwrap_or, option_and_then}
 use Rattle.std.specs.List.{range_with_len}
 use Rattle.std.specs.Option.{IsSome}
 use Rattle.std.proofs.lemmas.Bool.{cases_eq, cases_lt}
@@ -46,11 +46,13 @@ same-chain p q c links used h = record {
   last = λ some. h.last some ∙ sym (same-blocks p q links c.first (blocks_in c - 1));
   near_within = h.near_within;
   near = h.near ∙ sym (same-blocks p q links c.first c.near_index);
+  marks_all = h.marks_all;
+  marks = λ k few less. h.marks k few less ∙ sym (same-blocks p q links c.first (256 * k));
 }
 
 -- the same blocks with another number of bytes
 abbrev pub of_size : Chain → ℕ → Chain
-of_size c size = record { first = c.first; last = c.last; near = c.near; near_index = c.near_index; size = size }
+of_size c size = record { first = c.first; last = c.last; near = c.near; near_index = c.near_index; marks = c.marks; size = size }
 
 pub IsChain-of_size : (p : Pool) (c : Chain) (size : ℕ) → blocks_for size ≡ blocks_in c → IsChain p c → IsChain p (of_size c size)
 IsChain-of_size p c size same h = record {
@@ -59,6 +61,8 @@ IsChain-of_size p c size same h = record {
   last = λ some. h.last (subst (λ n. 0 < n) same some) ∙ ap (λ n. block_in p c (n - 1)) (sym same);
   near_within = subst (λ n. c.near_index ≤ n - 1) (sym same) h.near_within;
   near = h.near;
+  marks_all = h.marks_all;
+  marks = λ k few less. h.marks k few (subst (λ n. 256 * k < n) same less);
 }
 
 -- Bytes that are overwritten: before those that are new, these, and behind them.
@@ -185,7 +189,7 @@ module _ (p : Pool) (c : Chain) (at : ℕ) (new : List ℕ) (sound : IsSound p) 
 
   pub chain-written : IsChain q (of_size found size_after)
   chain-written =
-      let near : looked_up q c (at / 4096) ≡ found = ap (λ b. record { first = c.first; last = c.last; near = b; near_index = at / 4096; size = c.size }) (written-in p c at new sound h within fits (at / 4096)) in
+      let near : looked_up q c (at / 4096) ≡ found = ap (λ b. record { first = c.first; last = c.last; near = b; near_index = at / 4096; marks = c.marks; size = c.size }) (written-in p c at new sound h within fits (at / 4096)) in
       let whole : IsChain q found = subst (λ x. IsChain q x) near (IsChain-looked_up q c (at / 4096) (written-chain p c at new sound h within fits) within) in
       IsChain-of_size q found size_after size-same whole
 

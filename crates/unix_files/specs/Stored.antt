@@ -1,5 +1,5 @@
 -- How the bytes of files are kept in chains of blocks.
-use Rattle.std.specs.Prelude.{◌≡◌, ◌≢◌, ℕ, zero, suc, ◌+◌, ◌-◌, ◌/◌, ◌%◌, ◌<◌, ◌≤◌, ◌⊎◌, List, [], ◌++◌, map, length, take, drop, unwrap_or, slice_index, slice_index_or, slice_set}
+use Rattle.std.specs.Prelude.{◌≡◌, ◌≢◌, ℕ, zero, suc, ◌+◌, ◌-◌, ◌/◌, ◌%◌, ◌<◌, ◌≤◌, ◌⊎◌, List, [], ◌++◌, map, length, take, drop, unwrap_or, slice_index, slice_index_or, slice_set, replicate, if◌then◌else◌, ◌==◌, ◌*◌}
 use Rattle.std.specs.List.{range_with_len}
 use Rattle.block_pool.specs.Blocks.{Pool, IsSound, IsUsed, block_at, bytes_of, next_of, free_count}
 use Rattle.unix_definition.specs.Files.{blocks_for}
@@ -25,7 +25,14 @@ abbrev pub overwritten : List ℕ → ℕ → List ℕ → List ℕ
 overwritten bytes at new = take at bytes ++ new ++ drop (at + length new) bytes
 
 abbrev pub empty_chain : Chain
-empty_chain = record { first = 0; last = 0; near = 0; near_index = 0; size = 0 }
+empty_chain = record {
+  first = 0;
+  last = 0;
+  near = 0;
+  near_index = 0;
+  marks = replicate 256 0;
+  size = 0;
+}
 
 abbrev pub blocks_in : Chain → ℕ
 blocks_in c = blocks_for c.size
@@ -53,7 +60,18 @@ contents_of p chains = record { files = map (file_bytes p) chains; free = free_c
 
 -- the chain of one block
 abbrev pub begun : ℕ → ℕ → Chain
-begun b size = record { first = b; last = b; near = b; near_index = 0; size = size }
+begun b size = record {
+  first = b;
+  last = b;
+  near = b;
+  near_index = 0;
+  marks = replicate 256 b;
+  size = size;
+}
+
+-- the marks of a chain after its block of this number was added: every 256th one is kept
+abbrev pub marked : List ℕ → ℕ → ℕ → List ℕ
+marked marks index b = if (index % 256 == 0) then slice_set marks (index / 256) b else marks
 
 -- the chain whose block of this number was looked up last
 abbrev pub looked_up : Pool → Chain → ℕ → Chain
@@ -62,6 +80,7 @@ looked_up p c index = record {
   last = c.last;
   near = block_in p c index;
   near_index = index;
+  marks = c.marks;
   size = c.size;
 }
 
@@ -72,6 +91,9 @@ pub record IsChain (p : Pool) (c : Chain) : Type 0 where
   pub last : 0 < blocks_in c → c.last ≡ block_in p c (blocks_in c - 1)
   pub near_within : c.near_index ≤ blocks_in c - 1
   pub near : c.near ≡ block_in p c c.near_index
+  pub marks_all : length c.marks ≡ 256
+  pub marks : (k : ℕ) → k < 256 → 256 * k < blocks_in c
+      → slice_index c.marks k ≡ block_in p c (256 * k)
 
 -- No block belongs to two chains.
 pub record IsLaid (p : Pool) (chains : List Chain) : Type 0 where

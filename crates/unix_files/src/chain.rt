@@ -3,13 +3,18 @@
 ghost use Rattle.std.specs.Prelude.{◌≡◌, ◌≢◌, ℕ, ◌+◌, ◌<◌, ◌≤◌, ◌-◌, ◌%◌, ◌*◌, length, take, IfOk};
 ghost use Rattle.unix_definition.specs.Files.{blocks_for};
 ghost use Rattle.block_pool.specs.Blocks.{IsUsed, IsSound, block_at, free_count};
-ghost use Rattle.unix_files.specs.Stored.{empty_chain, blocks_in, block_after, looked_up, file_bytes, IsChain, Changes, begun, overwritten};
+ghost use Rattle.unix_files.specs.Stored.{empty_chain, blocks_in, block_after, looked_up, marked, file_bytes, IsChain, Changes, begun, overwritten};
 
 use block_pool::Blocks;
 use std::alloc::{AllocError, Global};
 
 /// The bytes in a block.
 pub const BLOCK: u32 = 4096;
+
+/// Every so many blocks of a file one is marked, as long as there are marks: a file of 65,536 blocks has them all.
+const SPAN: u32 = 256;
+
+const MARKS: u32 = 256;
 
 /// Where the bytes of a file are. Of an empty file only the length is looked at.
 #[derive(Clone, Copy, Debug, PartialEq, Eq)]
@@ -21,6 +26,8 @@ pub struct Chain {
     /// The block that was looked at last, and which one of the chain it is, counted from 0.
     pub near: u32,
     pub near_index: u32,
+    /// The block with number 0, that with number 256 and so on, as far as there are blocks. What stands behind them is not looked at.
+    pub marks: [u32; 256],
     /// The bytes of the file.
     pub size: u32,
 }
@@ -34,34 +41,33 @@ impl Chain {
             last: 0,
             near: 0,
             near_index: 0,
+            marks: [0; 256],
             size: 0,
         }
     }
 
-    /// The chain's block with this number, from 0.
+    /// The chain's block with this number, from 0. The walk to it is short, wherever it is: it begins at a mark, or nearer.
     pub fn block(&self, pool: &Blocks, index: u32) -> u32
         requires whole { IsChain pool.now self.now }
         requires within { index < blocks_in self.now }
         ensures { result ≡ block_after pool.now self.now.first index }
     {
-        if self.near_index <= index {
+        let mark = mark_before(index);
+        if self.near_index <= index && mark * SPAN <= self.near_index {
             walk(pool, self.near, index - self.near_index)
         } else {
-            walk(pool, self.first, index)
+            walk(pool, self.marks[mark as usize], index - mark * SPAN)
         }
     }
 
-    /// The chain that has looked up its block with this number, from 0.
-    pub fn at(&self, pool: &Blocks, index: u32) -> Chain
-        requires whole { IsChain pool.now self.now }
-        requires within { index < blocks_in self.now }
-        ensures { result ≡ looked_up pool.now self.now index }
+    /// Looks up the chain's block with this number, from 0.
+    pub fn look_up(&mut self, pool: &Blocks, index: u32)
+        requires whole { IsChain pool.now self.old }
+        requires within { index < blocks_in self.old }
+        ensures { self.new ≡ looked_up pool.now self.old index }
     {
-        Chain {
-            near: self.block(pool, index),
-            near_index: index,
-            ..*self
-        }
+        self.near = self.block(pool, index);
+        self.near_index = index;
     }
 
     /// The bytes of the file, in memory of their own.
@@ -78,6 +84,26 @@ impl Chain {
             block = pool.next(block).unwrap_or(0);
         }
         Ok(bytes)
+    }
+}
+
+/// The mark from which a walk to the block with this number begins: fewer than 256 blocks are between them.
+fn mark_before(index: u32) -> u32
+    ensures within { result < 256 }
+    ensures before { 256 * result ≤ index }
+    ensures near { index < 65536 → index < 256 * result + 256 }
+{
+    let mark = index / SPAN;
+    if mark < MARKS { mark } else { MARKS - 1 }
+}
+
+/// Marks the block with this number, from 0, if it is one to be marked.
+fn mark(marks: &mut [u32], index: u32, block: u32)
+    requires { length marks.old ≡ 256 }
+    ensures { marks.new ≡ marked marks.old index block }
+{
+    if index % SPAN == 0 && index / SPAN < MARKS {
+        marks[(index / SPAN) as usize] = block;
     }
 }
 
@@ -117,34 +143,33 @@ fn begun(block: u32, size: u32) -> Chain
         last: block,
         near: block,
         near_index: 0,
+        marks: [block; 256],
         size,
     }
 }
 
-/// The chain with bytes written from a place on: over those that are there, and after the last one. All of them are in one
+/// Writes bytes into a file from a place on: over those that are there, and after the last one. All of them are in one
 /// block.
-pub(crate) fn written(pool: &mut Blocks, chain: Chain, at: u32, bytes: &[u8]) -> Chain
+pub(crate) fn write(pool: &mut Blocks, chain: &mut Chain, at: u32, bytes: &[u8])
     requires sound { IsSound pool.old }
-    requires whole { IsChain pool.old chain }
-    requires within { at ≤ chain.size }
+    requires whole { IsChain pool.old chain.old }
+    requires within { at ≤ chain.old.size }
     requires some { 0 < length bytes.now }
     requires one { at % 4096 + length bytes.now ≤ 4096 }
     requires small { at + length bytes.now ≤ 0x7FFFFFFF }
-    requires room { blocks_for (at + length bytes.now) ≤ blocks_for chain.size + free_count pool.old }
-    ensures changes { Changes pool.old pool.new chain result }
-    ensures bytes { file_bytes pool.new result
-        ≡ overwritten (file_bytes pool.old chain) at bytes.now }
+    requires room { blocks_for (at + length bytes.now)
+        ≤ blocks_for chain.old.size + free_count pool.old }
+    ensures changes { Changes pool.old pool.new chain.old chain.new }
+    ensures bytes { file_bytes pool.new chain.new
+        ≡ overwritten (file_bytes pool.old chain.old) at bytes.now }
 {
     let index = at / BLOCK;
     if index < blocks_for(chain.size) {
-        let found = chain.at(pool, index);
-        pool.copy_in(found.near, at % BLOCK, bytes);
-        Chain {
-            size: greater(chain.size, at + bytes.len() as u32),
-            ..found
-        }
+        chain.look_up(pool, index);
+        pool.copy_in(chain.near, at % BLOCK, bytes);
+        chain.size = greater(chain.size, at + bytes.len() as u32);
     } else {
-        with_block(pool, chain, bytes)
+        add_block(pool, chain, bytes);
     }
 }
 
@@ -155,34 +180,34 @@ fn greater(size: u32, end: u32) -> u32
     if size < end { end } else { size }
 }
 
-/// The chain, whose blocks are full, with one more block, which begins with these bytes.
-fn with_block(pool: &mut Blocks, chain: Chain, bytes: &[u8]) -> Chain
+/// Puts one more block behind a chain whose blocks are full. It begins with these bytes.
+fn add_block(pool: &mut Blocks, chain: &mut Chain, bytes: &[u8])
     requires sound { IsSound pool.old }
-    requires whole { IsChain pool.old chain }
+    requires whole { IsChain pool.old chain.old }
     requires some { 0 < length bytes.now }
     requires one { length bytes.now ≤ 4096 }
-    requires small { chain.size + length bytes.now ≤ 0x7FFFFFFF }
-    requires full { chain.size % 4096 ≡ 0 }
+    requires small { chain.old.size + length bytes.now ≤ 0x7FFFFFFF }
+    requires full { chain.old.size % 4096 ≡ 0 }
     requires room { 1 ≤ free_count pool.old }
-    ensures changes { Changes pool.old pool.new chain result }
-    ensures bytes { file_bytes pool.new result
-        ≡ overwritten (file_bytes pool.old chain) chain.size bytes.now }
+    ensures changes { Changes pool.old pool.new chain.old chain.new }
+    ensures bytes { file_bytes pool.new chain.new
+        ≡ overwritten (file_bytes pool.old chain.old) chain.old.size bytes.now }
 {
     let Ok(block) = pool.take() else {
         unreachable!()
     };
     pool.copy_in(block, 0, bytes);
     if chain.size == 0 {
-        return begun(block, bytes.len() as u32);
+        *chain = begun(block, bytes.len() as u32);
+        return;
     }
     pool.set_next(chain.last, Some(block));
-    Chain {
-        first: chain.first,
-        last: block,
-        near: block,
-        near_index: chain.size / BLOCK,
-        size: chain.size + bytes.len() as u32,
-    }
+    let index = chain.size / BLOCK;
+    mark(&mut chain.marks, index, block);
+    chain.last = block;
+    chain.near = block;
+    chain.near_index = index;
+    chain.size += bytes.len() as u32;
 }
 
 /// How many blocks so many bytes need.
@@ -196,18 +221,19 @@ pub fn blocks_for(size: u32) -> u32
     }
 }
 
-/// The chain with fewer bytes. The blocks that it no longer needs are given back.
-pub(crate) fn shortened(pool: &mut Blocks, chain: Chain, size: u32) -> Chain
+/// Cuts a file to its first bytes. The blocks that it no longer needs are given back.
+pub(crate) fn shorten(pool: &mut Blocks, chain: &mut Chain, size: u32)
     requires sound { IsSound pool.old }
-    requires whole { IsChain pool.old chain }
-    requires fewer { size ≤ chain.size }
-    ensures changes { Changes pool.old pool.new chain result }
-    ensures bytes { file_bytes pool.new result ≡ take size (file_bytes pool.old chain) }
+    requires whole { IsChain pool.old chain.old }
+    requires fewer { size ≤ chain.old.size }
+    ensures changes { Changes pool.old pool.new chain.old chain.new }
+    ensures bytes { file_bytes pool.new chain.new ≡ take size (file_bytes pool.old chain.old) }
 {
     let kept = blocks_for(size);
     let surplus = blocks_for(chain.size) - kept;
     if surplus == 0 {
-        return Chain { size, ..chain };
+        chain.size = size;
+        return;
     }
     let last = if kept == 0 {
         0
@@ -216,13 +242,10 @@ pub(crate) fn shortened(pool: &mut Blocks, chain: Chain, size: u32) -> Chain
     };
     let first = chain.block(pool, kept);
     release(pool, first, surplus);
-    Chain {
-        first: chain.first,
-        last,
-        near: chain.first,
-        near_index: 0,
-        size,
-    }
+    chain.last = last;
+    chain.near = chain.first;
+    chain.near_index = 0;
+    chain.size = size;
 }
 
 /// Gives back so many blocks, each of which names the next one.

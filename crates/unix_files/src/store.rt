@@ -2,7 +2,7 @@ ghost use Rattle.std.specs.Prelude.{◌≡◌, ◌<◌, ◌≤◌, ◌+◌, ◌-
 ghost use Rattle.unix_definition.specs.Files.{blocks_for};
 ghost use Rattle.unix_files.specs.Stored.{file_at, with_file, chain_at, overwritten};
 
-use crate::chain::{BLOCK, Chain, shortened, written};
+use crate::chain::{self, BLOCK, Chain};
 use block_pool::Blocks;
 use std::alloc::{AllocError, Global};
 use std::marker::Model;
@@ -64,8 +64,8 @@ impl Store {
         ensures value { result ≡ slice_index (file_at self.old n) at }
         ensures same { self.new ≡ self.old }
     {
-        let chain = chain_of(&self.chains, n).at(&self.pool, at / BLOCK);
-        self.chains[n] = chain;
+        let chain = &mut self.chains[n];
+        chain.look_up(&self.pool, at / BLOCK);
         self.pool.read(chain.near, at % BLOCK)
     }
 
@@ -88,8 +88,7 @@ impl Store {
             ≤ blocks_for (length (file_at self.old n)) + self.old.free }
         ensures { self.new ≡ with_file self.old n (overwritten (file_at self.old n) at bytes.now) }
     {
-        let chain = chain_of(&self.chains, n);
-        self.chains[n] = written(&mut self.pool, chain, at, bytes);
+        chain::write(&mut self.pool, &mut self.chains[n], at, bytes);
     }
 
     /// Takes the bytes of a file away from a place on.
@@ -98,8 +97,7 @@ impl Store {
         requires within { size ≤ length (file_at self.old n) }
         ensures { self.new ≡ with_file self.old n (take size (file_at self.old n)) }
     {
-        let chain = chain_of(&self.chains, n);
-        self.chains[n] = shortened(&mut self.pool, chain, size);
+        chain::shorten(&mut self.pool, &mut self.chains[n], size);
     }
 
     /// Puts zeros after the bytes of a file until it has `size`.
@@ -164,9 +162,9 @@ fn in_block(at: u32, bytes: usize) -> usize
     if bytes < room { bytes } else { room }
 }
 
-fn chain_of(chains: &Vec<Chain>, n: usize) -> Chain
+fn chain_of(chains: &Vec<Chain>, n: usize) -> &Chain
     requires { n < vec_len chains.now }
-    ensures { result ≡ chain_at chains.now.items n }
+    ensures { result.now ≡ chain_at chains.now.items n }
 {
-    chains[n]
+    &chains[n]
 }
