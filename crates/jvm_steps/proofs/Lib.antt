@@ -11,4 +11,5 @@ pub mod Returns
 pub mod Hosts
 pub mod Lines
 pub mod Methods
+pub mod Naming
 pub mod Fetching

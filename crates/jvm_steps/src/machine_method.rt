@@ -5,6 +5,6 @@ pub struct MachineMethod {
     pub start: u32,
     /// The number of its parameters.
     pub parameters: usize,
-    /// The number of its local variables.
+    /// The number of its frames' local variables: those that it names.
     pub locals: u16,
 }
