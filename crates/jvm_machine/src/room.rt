@@ -1,6 +1,7 @@
 ghost use Rattle.jvm_machine.specs.Rooms.{IsRoomFor};
 
 use jvm_definition::LinkedMethod;
+use jvm_steps::named_locals;
 
 /// How many local variables and operands a frame needs to have room for.
 #[derive(Clone, Copy)]
@@ -16,7 +17,7 @@ pub(crate) fn room_for(methods: &[LinkedMethod]) -> Room
     let mut locals = 0;
     let mut operands = 0;
     for method in methods {
-        locals = method.locals.max(locals);
+        locals = named_locals(method).max(locals);
         operands = method.stack.max(operands);
     }
     Room { locals, operands }
