@@ -1,11 +1,11 @@
 -- Frames that give local variables and operands, in each form.
-use Rattle.std.proofs.Common.{◌≡◌, ◌≢◌, ℕ, zero, suc, ◌+◌, ◌-◌, ◌^◌, ◌<◌, ◌≤◌, Bool, true, false, eqb, List, [], ◌∷◌, ◌++◌, length, Option, Some, None, refl, sym, ap, subst, ◌∙◌, arith, take}
-use Rattle.std.specs.Prelude.{if◌then◌else◌, nat_le, nat_lt, map, reverse, unwrap_or, IsSome, is_some}
-use Rattle.std.specs.Int.{w8, w16}
+use Rattle.std.proofs.Common.{◌≡◌, ℕ, zero, suc, ◌+◌, ◌-◌, ◌^◌, ◌<◌, ◌≤◌, Bool, true, eqb, List, [], ◌∷◌, ◌++◌, length, Some, None, refl, sym, ap, subst, ◌∙◌, arith, take}
+use Rattle.std.specs.Prelude.{if◌then◌else◌, nat_lt, map, reverse, unwrap_or, is_some}
+use Rattle.std.specs.Int.{w16}
 use Rattle.std.proofs.lemmas.Bool.{and_from, eq-eqb, le-leb, lt-ltb, le-ltb, false≢true, cond-true, cond-false}
 use Rattle.std.proofs.lemmas.List.{length-append, length-map, length-reverse, map-append, reverse-append, reverse-reverse}
 use Rattle.std.proofs.Math.Seq.{take-append_seam}
-use Rattle.class_definition.specs.Format.{Format, number_format, fault_unless, is_sound, chain_fits, counted, repeated, fits_by, nothing}
+use Rattle.class_definition.specs.Format.{Format, fault_unless, is_sound, chain_fits, counted, fits_by, nothing}
 use Rattle.class_definition.specs.declared.entry.Entry.{Entry}
 use Rattle.jvm_definition.specs.declared.kind.Kind.{Kind}
 use Rattle.jvm_definition.specs.declared.kind.Kind.TheVariants as kinds
@@ -14,11 +14,12 @@ use Rattle.stackmap_table.specs.declared.place.Place.{Place}
 use Rattle.stackmap_table.specs.declared.place.Place.TheVariants.{Local, Operand}
 use Rattle.stackmap_table.specs.declared.reference_slots.ReferenceSlots.{ReferenceSlots}
 use Rattle.stackmap_table.specs.declared.table_type.TableType.{TableType}
+use Rattle.stackmap_table.specs.declared.table_type.TableType.TheVariants.{Object}
 use Rattle.stackmap_table.specs.declared.table_frame.TableFrame.{TableFrame}
 use Rattle.stackmap_table.specs.declared.table_frame.TableFrame.TheVariants.{Same, SameWithOperand, SameWithOperandExtended, Chop, SameExtended, Append, Full}
 use Rattle.stackmap_table.specs.Tables.{bad_table, kind_at, type_at, frame_tag, same_frame, same_with_operand, same_with_operand_extended, delta, chop, same_extended, append, full, form, frame}
-use Rattle.stackmap_table.specs.Meaning.{table_kind, delta_of, locals_of, frame_operands}
-use Rattle.stackmap_table.specs.Shortest.{AreReferences, Gives, NoOther, written_type, has_no_long}
+use Rattle.stackmap_table.specs.Meaning.{table_kind}
+use Rattle.stackmap_table.specs.Shortest.{AreReferences, Gives, IsLowest, AreLowest, NamesKind, written_type, has_no_long}
 
 -- ---- types
 
@@ -49,6 +50,11 @@ typed-split kinds.Text ks h = (refl, h)
 pub wide-slots-of : (pool : List Entry) (slots : ReferenceSlots) → AreReferences pool slots → AreWide slots
 wide-slots-of pool slots refs = record { ints = omega (arith, refs.ints.near); pages = omega (arith, refs.pages.near); text = omega (arith, refs.text.near) }
 
+pub map-reversed : {A B : Type 0} (f : A → B) (xs : List A) → map f (reverse xs) ≡ reverse (map f xs)
+map-reversed f [] = refl
+map-reversed f (x ∷ xs) =
+    ap (map f) (reverse-append (x ∷ []) xs) ∙ (map-append f (reverse xs) (x ∷ []) ∙ (ap (λ zs. zs ++ f x ∷ []) (map-reversed f xs) ∙ sym (reverse-append (f x ∷ []) (map f xs))))
+
 module _ (pool : List Entry) (slots : ReferenceSlots) (refs : AreReferences pool slots) (wide : AreWide slots) where
   pub kind-written : (k : Kind) → table_kind pool (written_type slots k) ≡ k
   kind-written kinds.Top = refl
@@ -62,6 +68,33 @@ module _ (pool : List Entry) (slots : ReferenceSlots) (refs : AreReferences pool
   pub kinds-written : (ks : List Kind) → map (table_kind pool) (map (written_type slots) ks) ≡ ks
   kinds-written [] = refl
   kinds-written (k ∷ ks) = λ i. kind-written k i ∷ kinds-written ks i
+
+  lowest-named : (slot : ℕ) (k : Kind) → NamesKind pool slot k → IsLowest pool (Object slot)
+  lowest-named slot k named other e = named.lowest other (e ∙ named.is)
+
+  pub kind-lowest : (k : Kind) → IsLowest pool (written_type slots k)
+  kind-lowest kinds.Top = tt
+  kind-lowest kinds.Int = tt
+  kind-lowest kinds.Long = tt
+  kind-lowest kinds.Null = tt
+  kind-lowest kinds.Ints = lowest-named slots.ints kinds.Ints refs.ints
+  kind-lowest kinds.Pages = lowest-named slots.pages kinds.Pages refs.pages
+  kind-lowest kinds.Text = lowest-named slots.text kinds.Text refs.text
+
+  pub kinds-lowest : (ks : List Kind) → AreLowest pool (map (written_type slots) ks)
+  kinds-lowest [] = tt
+  kinds-lowest (k ∷ ks) = (kind-lowest k, kinds-lowest ks)
+
+  -- behind others
+  lowest-behind : (ts : List TableType) (ks : List Kind) → AreLowest pool ts → AreLowest pool (ts ++ map (written_type slots) ks)
+  lowest-behind [] ks low = kinds-lowest ks
+  lowest-behind (t ∷ ts) ks low = (low.0, lowest-behind ts ks low.1)
+
+  -- local variables, and operands, of which the top is first
+  pub all-lowest : (ls stack : List Kind) → AreLowest pool (map (written_type slots) ls ++ reverse (map (written_type slots) stack))
+  all-lowest ls stack =
+      subst (λ ts. AreLowest pool (map (written_type slots) ls ++ ts)) (map-reversed (written_type slots) stack)
+      (lowest-behind (map (written_type slots) ls) (reverse stack) (kinds-lowest ls))
 
   sound : (slot : ℕ) (k : Kind) → kind_at pool slot ≡ Some k → is_sound (fault_unless bad_table (is_some (kind_at pool slot))) ≡ true
   sound slot k e = ap (λ o. is_sound (fault_unless bad_table (is_some o))) e
@@ -102,11 +135,6 @@ module _ (pool : List Entry) (slots : ReferenceSlots) (refs : AreReferences pool
 pub short-behind : (ks os : List Kind) → has_no_long (ks ++ os) ≡ true → has_no_long os ≡ true
 short-behind [] os h = h
 short-behind (k ∷ ks) os h = short-behind ks os (first-local k (ks ++ os) h).1
-
-pub map-reversed : {A B : Type 0} (f : A → B) (xs : List A) → map f (reverse xs) ≡ reverse (map f xs)
-map-reversed f [] = refl
-map-reversed f (x ∷ xs) =
-    ap (map f) (reverse-append (x ∷ []) xs) ∙ (map-append f (reverse xs) (x ∷ []) ∙ (ap (λ zs. zs ++ f x ∷ []) (map-reversed f xs) ∙ sym (reverse-append (f x ∷ []) (map f xs))))
 
 typed-append : (ks os : List Kind) → no_top ks ≡ true → no_top os ≡ true → no_top (ks ++ os) ≡ true
 typed-append [] os h k = k

@@ -5,6 +5,7 @@ pub mod ShortLaws
 pub mod GivesLaws
 pub mod ChosenLaws
 pub mod PrefixLaws
+pub mod DeterminedLaws
 pub mod TrimLaws
 pub mod WrittenLaws
 pub mod SizedLaws

@@ -1,8 +1,7 @@
 -- The frames of a table are listed one after the other.
-use Rattle.std.proofs.Common.{◌≡◌, ℕ, suc, ◌+◌, ◌*◌, ◌^◌, ◌<◌, ◌≤◌, Bool, true, false, List, [], ◌∷◌, ◌++◌, length, refl, sym, ap, subst, ◌∙◌, Option, Some, None, arith, append_assoc}
-use Rattle.std.specs.Prelude.{option_map, option_and_then, IfSome, IfNone, if◌then◌else◌}
+use Rattle.std.proofs.Common.{◌≡◌, ℕ, ◌+◌, ◌*◌, ◌^◌, ◌<◌, ◌≤◌, Bool, true, false, List, [], ◌∷◌, ◌++◌, length, refl, sym, ap, ◌∙◌, Option, Some, None, arith, append_assoc}
+use Rattle.std.specs.Prelude.{option_map, option_and_then, IfSome, IfNone}
 use Rattle.std.proofs.lemmas.List.{length-append, append-nil}
-use Rattle.std.proofs.lemmas.Option.{same_Some, none-some}
 use Rattle.class_definition.specs.declared.entry.Entry.{Entry}
 use Rattle.jvm_definition.specs.declared.kind.Kind.{Kind}
 use Rattle.jvm_type_inference.specs.declared.frame.Frame.{Frame}

@@ -1,9 +1,9 @@
 -- Which frames there are, and the bytes of each.
-use Rattle.std.proofs.Common.{◌≡◌, ℕ, zero, suc, ◌+◌, ◌-◌, ◌^◌, ◌<◌, ◌≤◌, Bool, true, false, eqb, List, [], ◌∷◌, ◌++◌, length, Option, Some, None, refl, sym, ap, subst, ◌∙◌, arith}
-use Rattle.std.specs.Prelude.{if◌then◌else◌, nat_lt, is_some}
+use Rattle.std.proofs.Common.{◌≡◌, ℕ, ◌-◌, ◌^◌, ◌<◌, ◌≤◌, Bool, true, false, eqb, List, [], ◌∷◌, ◌++◌, length, Some, None, refl, sym, ap, ◌∙◌, arith}
+use Rattle.std.specs.Prelude.{if◌then◌else◌, nat_lt}
 use Rattle.std.specs.Int.{w8, w16, to_be_bytes}
 use Rattle.std.proofs.lemmas.Bool.{and_parts, eqb-true, eq-eqb, ltb-true, ltb-false, false≢true}
-use Rattle.class_definition.specs.Format.{Format, number_format, nothing, both, mapped, counted, repeated, refused_format, chain_spelling, chain_fits, spelled_by, fits_by}
+use Rattle.class_definition.specs.Format.{Format, number_format, nothing, counted, repeated, refused_format, chain_spelling, chain_fits, spelled_by, fits_by}
 use Rattle.class_definition.specs.declared.entry.Entry.{Entry}
 use Rattle.stackmap_table.specs.declared.place.Place.{Place}
 use Rattle.stackmap_table.specs.declared.place.Place.TheVariants.{Local, Operand}
@@ -12,7 +12,7 @@ use Rattle.stackmap_table.specs.declared.table_type.TableType.TheVariants.{Top, 
 use Rattle.stackmap_table.specs.declared.table_frame.TableFrame.{TableFrame}
 use Rattle.stackmap_table.specs.declared.table_frame.TableFrame.TheVariants.{Same, SameWithOperand, SameWithOperandExtended, Chop, SameExtended, Append, Full}
 use Rattle.stackmap_table.specs.Written.{half, type_bytes, types_bytes, form_bytes, frame_bytes}
-use Rattle.stackmap_table.specs.Tables.{bad_table, type_at, types_at, frame_tag, same_of, same_frame, operand_of, same_with_operand, delta, same_with_operand_extended, chop_of, chop, same_extended, append, full, form, frame}
+use Rattle.stackmap_table.specs.Tables.{bad_table, type_at, frame_tag, same_frame, same_with_operand, delta, same_with_operand_extended, chop, same_extended, append, full, form, frame}
 
 -- ---- types
 

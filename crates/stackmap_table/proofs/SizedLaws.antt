@@ -1,7 +1,7 @@
 -- How many bytes a frame has is known by its form.
-use Rattle.std.proofs.Common.{◌≡◌, ℕ, suc, ◌+◌, ◌*◌, ◌<◌, ◌≤◌, Bool, true, false, List, [], ◌∷◌, ◌++◌, length, Option, Some, None, refl, sym, ap, subst, ◌∙◌, arith}
+use Rattle.std.proofs.Common.{◌≡◌, ℕ, ◌+◌, ◌*◌, ◌<◌, ◌≤◌, Bool, true, false, List, [], ◌∷◌, ◌++◌, length, Option, Some, None, refl, sym, ap, ◌∙◌, arith}
 use Rattle.std.specs.Prelude.{if◌then◌else◌, nat_lt, map, reverse, IfSome, IfNone}
-use Rattle.std.specs.Int.{w8, w16, to_be_bytes}
+use Rattle.std.specs.Int.{w8, to_be_bytes}
 use Rattle.std.proofs.lemmas.List.{length-append}
 use Rattle.class_definition.specs.declared.entry.Entry.{Entry}
 use Rattle.jvm_definition.specs.declared.kind.Kind.{Kind}
@@ -10,12 +10,11 @@ use Rattle.jvm_type_inference.specs.declared.frame.Frame.{Frame}
 use Rattle.stackmap_table.specs.declared.form.Form.{Form}
 use Rattle.stackmap_table.specs.declared.form.Form.TheVariants as forms
 use Rattle.stackmap_table.specs.declared.reference_slots.ReferenceSlots.{ReferenceSlots}
-use Rattle.stackmap_table.specs.declared.table_type.TableType.{TableType}
-use Rattle.stackmap_table.specs.declared.table_frame.TableFrame.TheVariants.{Same, SameWithOperand, SameWithOperandExtended, Chop, SameExtended, Append, Full}
+use Rattle.stackmap_table.specs.declared.table_frame.TableFrame.TheVariants.{Same, SameWithOperand, SameWithOperandExtended, Chop, SameExtended, Append}
 use Rattle.stackmap_table.specs.Tables.{frame_tag}
-use Rattle.stackmap_table.specs.Forms.{frame_by, kind_size, kinds_size, delta_size, form_size, SizesNext, HasSize}
+use Rattle.stackmap_table.specs.Forms.{frame_by, kind_size, kinds_size, form_size, SizesNext, HasSize}
 use Rattle.stackmap_table.specs.Shortest.{written_type, trimmed_locals, AreTabled}
-use Rattle.stackmap_table.specs.Written.{half, type_bytes, types_bytes, form_bytes, frame_bytes, AppendsNext}
+use Rattle.stackmap_table.specs.Written.{half, type_bytes, types_bytes, frame_bytes, AppendsNext}
 use Rattle.stackmap_table.proofs.GivesLaws.{map-reversed}
 use Rattle.stackmap_table.proofs.ShortLaws.{kinds-reverse}
 use Rattle.stackmap_table.proofs.WrittenLaws.{IsWriting, first-writing, next-writing, all-written, no-frames-table, some-frames-table}

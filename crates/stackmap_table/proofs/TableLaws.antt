@@ -1,10 +1,10 @@
 -- A table is a format.
-use Rattle.std.proofs.Common.{◌≡◌, ℕ, ◌+◌, ◌-◌, ◌<◌, ◌≤◌, Bool, true, false, eqb, ltb, List, [], ◌∷◌, length, Option, Some, None, refl, sym, ap, ◌∙◌, arith}
+use Rattle.std.proofs.Common.{◌≡◌, ℕ, ◌+◌, ◌-◌, ◌<◌, Bool, true, false, eqb, List, length, Option, Some, None, refl, sym, ap, ◌∙◌, arith}
 use Rattle.std.specs.Prelude.{if◌then◌else◌, nat_lt, is_some}
 use Rattle.std.specs.Int.{w8, w16}
 use Rattle.std.proofs.lemmas.Bool.{and_parts, eqb-true, eq-eqb, ltb-true, ltb-false}
 use Rattle.std.proofs.lemmas.Option.{same_Some, none-some}
-use Rattle.class_definition.specs.Format.{Format, number_format, nothing, both, mapped, tested, counted, repeated, refused_format, headed, FormatRow, fits_by}
+use Rattle.class_definition.specs.Format.{Format, number_format, nothing, both, mapped, counted, repeated, refused_format, fits_by}
 use Rattle.class_definition.specs.Spelling.{IsFormat}
 use Rattle.class_format.proofs.FieldLaws.{wide8, wide16, number_law, nothing_law, refused_law}
 use Rattle.class_format.proofs.Combined.{both_law, mapped_law, tested_law, repeated_law}

@@ -1,9 +1,8 @@
 -- Local variables without those at the end of which nothing is known.
-use Rattle.std.proofs.Common.{◌≡◌, ℕ, suc, ◌≤◌, Bool, true, false, List, [], ◌∷◌, ◌++◌, length, refl, sym, ap, ◌∙◌, arith}
+use Rattle.std.proofs.Common.{◌≡◌, suc, ◌≤◌, true, List, [], ◌∷◌, ◌++◌, length, refl, ap, ◌∙◌, arith}
 use Rattle.std.proofs.lemmas.Bool.{false≢true}
 use Rattle.jvm_definition.specs.declared.kind.Kind.{Kind}
 use Rattle.jvm_definition.specs.declared.kind.Kind.TheVariants as kinds
-use Rattle.jvm_definition.specs.Typing.{same_kind}
 use Rattle.stackmap_table.specs.Shortest.{before_others, trimmed_locals, has_no_long}
 
 -- one at the end

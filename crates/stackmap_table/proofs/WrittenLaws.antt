@@ -1,10 +1,10 @@
 -- The shortest frames are written one after the other, and read back.
-use Rattle.std.proofs.Common.{◌≡◌, ℕ, suc, ◌+◌, ◌^◌, ◌<◌, ◌≤◌, Bool, true, false, eqb, List, [], ◌∷◌, ◌++◌, length, Option, Some, None, refl, sym, ap, subst, ◌∙◌, arith, append_assoc}
-use Rattle.std.specs.Prelude.{flat_map, map, option_map, option_and_then, if◌then◌else◌, nat_le, IfSome, IfNone, Ok}
+use Rattle.std.proofs.Common.{◌≡◌, ℕ, suc, ◌+◌, ◌^◌, ◌<◌, ◌≤◌, true, eqb, List, [], ◌∷◌, ◌++◌, length, Option, Some, None, refl, sym, ap, subst, ◌∙◌, arith, append_assoc}
+use Rattle.std.specs.Prelude.{flat_map, map, option_map, option_and_then, nat_le, IfSome, IfNone}
 use Rattle.std.specs.Int.{w16}
 use Rattle.std.proofs.lemmas.Bool.{and_parts, and_from, eq-eqb, lt-ltb, le-leb, leb-true}
-use Rattle.std.proofs.lemmas.List.{length-append, append-nil}
-use Rattle.class_definition.specs.Format.{Format, number_format, chain_spelling, chain_fits, counted, whole}
+use Rattle.std.proofs.lemmas.List.{append-nil}
+use Rattle.class_definition.specs.Format.{number_format, chain_spelling, chain_fits}
 use Rattle.class_definition.specs.Spelling.{SpellsBy}
 use Rattle.class_format.proofs.Parts.{whole_back}
 use Rattle.class_definition.specs.declared.entry.Entry.{Entry}
@@ -14,7 +14,7 @@ use Rattle.jvm_type_inference.specs.declared.frame.Frame.{Frame}
 use Rattle.stackmap_table.specs.declared.table_frame.TableFrame.{TableFrame}
 use Rattle.stackmap_table.specs.declared.table_frame.TableFrame.TheVariants.{Same, SameWithOperand, SameWithOperandExtended, Chop, SameExtended, Append, Full}
 use Rattle.stackmap_table.specs.Tables.{bad_table, frame, frame_table}
-use Rattle.stackmap_table.specs.Meaning.{delta_of, frame_offset, locals_of, frame_operands, is_frame_within, frame_at_offset, then_frames, frames_after, frames_of, frames_of_table}
+use Rattle.stackmap_table.specs.Meaning.{delta_of, frame_offset, frame_operands, is_frame_within, frame_at_offset, then_frames, frames_after, frames_of, frames_of_table}
 use Rattle.stackmap_table.specs.Last.{start_of}
 use Rattle.stackmap_table.specs.Shortest.{GivesShortest, trimmed_locals, trimmed_frame, AreShortest, AreTabled, AllWithin, spelling, IsTableOf}
 use Rattle.stackmap_table.specs.Written.{half, frame_bytes, table_bytes, IsShort, AppendsNext, AppendsShortest}

@@ -1,6 +1,5 @@
 -- JVM Specification, Java SE 7 edition, 4.7.4: the frames for which those of a table stand, with their offsets.
 use Rattle.std.specs.Prelude.{ℕ, ◌+◌, ◌-◌, ◌&&◌, Bool, nat_le, if◌then◌else◌, List, [], ◌∷◌, ◌++◌, length, map, reverse, take, Option, Some, None, option_map, option_and_then, unwrap_or, Result, Ok, Err}
-use Rattle.std.specs.List.{list_all}
 use Rattle.class_definition.specs.declared.miss.Miss.{Miss}
 use Rattle.class_definition.specs.Format.{whole}
 use Rattle.class_definition.specs.declared.entry.Entry.{Entry}

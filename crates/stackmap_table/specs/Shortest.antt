@@ -8,15 +8,17 @@ use Rattle.jvm_definition.specs.Typing.{no_top}
 use Rattle.jvm_type_inference.specs.declared.frame.Frame.{Frame}
 use Rattle.stackmap_table.specs.declared.reference_slots.ReferenceSlots.{ReferenceSlots}
 use Rattle.stackmap_table.specs.declared.table_frame.TableFrame.{TableFrame}
+use Rattle.stackmap_table.specs.declared.table_frame.TableFrame.TheVariants.{SameWithOperand, SameWithOperandExtended, Append, Full}
 use Rattle.stackmap_table.specs.declared.table_type.TableType.{TableType}
 use Rattle.stackmap_table.specs.declared.table_type.TableType.TheVariants as types
 use Rattle.stackmap_table.specs.Meaning.{delta_of, frame_offset, locals_of, frame_operands, is_frame_within}
 use Rattle.stackmap_table.specs.Tables.{kind_at, frame, frame_table}
 
--- a slot, which has two bytes, names a type of references
+-- a slot, which has two bytes, names a type of references, and no lower slot does
 pub record NamesKind (pool : List Entry) (slot : ℕ) (kind : Kind) : Type 0 where
   pub near : slot ≤ 65535
   pub is : kind_at pool slot ≡ Some kind
+  pub lowest : (other : ℕ) → kind_at pool other ≡ Some kind → slot ≤ other
 
 -- the slots name the types of references
 pub record AreReferences (pool : List Entry) (slots : ReferenceSlots) : Type 0 where
@@ -50,10 +52,29 @@ pub record Gives (pool : List Entry) (before : List Kind) (delta : ℕ) (locals 
   pub has_locals : locals_of pool before f ≡ Some locals
   pub has_operands : frame_operands pool f ≡ stack
 
--- no frame that gives the same has fewer bytes
+-- the types of its local variables and operands
+abbrev pub types_of : TableFrame → List TableType
+types_of (SameWithOperand delta type) = type ∷ []
+types_of (SameWithOperandExtended delta type) = type ∷ []
+types_of (Append delta added) = added
+types_of (Full delta locals operands) = locals ++ operands
+types_of f = []
+
+-- a type of references is named by the lowest slot that names it
+abbrev pub IsLowest : List Entry → TableType → Type 0
+IsLowest pool (types.Object slot) =
+    (other : ℕ) → kind_at pool other ≡ kind_at pool slot → slot ≤ other
+IsLowest pool type = Unit {0}
+
+abbrev pub AreLowest : List Entry → List TableType → Type 0
+AreLowest pool [] = Unit {0}
+AreLowest pool (t ∷ others) = IsLowest pool t × AreLowest pool others
+
+-- no frame that gives the same has fewer bytes, and of several slots with a type the lowest is named
 pub record GivesShortest (pool : List Entry) (before : List Kind) (delta : ℕ)
     (locals stack : List Kind) (f : TableFrame) : Type 0 where
   pub gives : Gives pool before delta locals stack f
+  pub lowest : AreLowest pool (types_of f)
   pub shortest : (g : TableFrame) → Gives pool before delta locals stack g
       → length ((frame pool).spell f) ≤ length ((frame pool).spell g)
 

@@ -1,5 +1,5 @@
 -- JVM Specification, Java SE 7 edition, 4.7.4: the frames of a StackMapTable as bytes.
-use Rattle.std.specs.Prelude.{ℕ, ◌+◌, ◌-◌, ◌==◌, Bool, nat_lt, if◌then◌else◌, List, [], ◌∷◌, length, codes, Option, Some, None, is_some}
+use Rattle.std.specs.Prelude.{ℕ, ◌+◌, ◌-◌, ◌==◌, nat_lt, if◌then◌else◌, List, [], ◌∷◌, length, codes, Option, Some, None, is_some}
 use Rattle.std.specs.Int.{w8, w16}
 use Rattle.class_definition.specs.Format.{Format, number_format, nothing, both, mapped, tested, counted, repeated, refused_format, headed, FormatRow, tagged}
 use Rattle.class_definition.specs.declared.entry.Entry.{Entry}

@@ -3,6 +3,7 @@ ghost use Rattle.std.specs.Prelude.{◌≡◌, ℕ, List, Ok, Some, map};
 ghost use Rattle.class_definition.specs.Format.{whole};
 ghost use Rattle.class_definition.specs.Spelling.{IsBytes, SpellsBy};
 ghost use Rattle.class_definition.specs.declared.entry.Entry.{Entry};
+ghost use Rattle.jvm_definition.specs.declared.kind.Kind.{Kind};
 ghost use Rattle.jvm_definition.specs.declared.linked_method.LinkedMethod.{LinkedMethod};
 ghost use Rattle.jvm_type_inference.specs.declared.frame.Frame.{Frame};
 ghost use Rattle.stackmap_table.specs.declared.table_frame.TableFrame.{TableFrame};
@@ -26,4 +27,13 @@ pub fn tables_list_frames()
         (bytes : List ℕ) → AreTabled 0 listed → AllWithin method listed
         → IsTableOf pool method.parameters listed bytes
         → frames_of pool method bytes ≡ Some (map trimmed_frame listed) }
+{}
+
+/// Frames have one table, which knows nothing of the local variables that are left out at their ends: the forms are the shortest ones,
+/// and of several slots that name a type the lowest is meant.
+pub fn tables_are_determined()
+    ensures { (pool : List Entry) (parameters : List Kind) (listed others : List (ℕ × Frame))
+        (first second : List ℕ) → map trimmed_frame listed ≡ map trimmed_frame others
+        → IsTableOf pool parameters listed first → IsTableOf pool parameters others second
+        → first ≡ second }
 {}

@@ -15,7 +15,7 @@ mod table_type;
 mod types;
 mod writing;
 
-pub use laws::{tables_are_read_back, tables_list_frames};
+pub use laws::{tables_are_determined, tables_are_read_back, tables_list_frames};
 pub use meaning::listed_frames;
 pub use place::Place;
 pub use reference_slots::ReferenceSlots;

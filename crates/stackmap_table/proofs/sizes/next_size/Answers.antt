@@ -1,4 +1,4 @@
-use Rattle.std.proofs.Common.{◌≡◌, ◌≤◌, length, sym, ap, subst, ◌∙◌, arith}
+use Rattle.std.proofs.Common.{◌≤◌, length, ap, subst, ◌∙◌, arith}
 use Rattle.stackmap_table.specs.Forms.{form_size, frame_by}
 use Rattle.stackmap_table.specs.Shortest.{GivesShortest, has_no_long}
 use Rattle.stackmap_table.proofs.SizedLaws.{delta-small, sized-form}

@@ -1,4 +1,4 @@
-use Rattle.std.proofs.Common.{◌≡◌, ◌≤◌, length, true, sym, ap, subst, ◌∙◌, arith}
+use Rattle.std.proofs.Common.{length, ap, subst, ◌∙◌, arith}
 use Rattle.stackmap_table.specs.Shortest.{GivesShortest, has_no_long}
 use Rattle.stackmap_table.proofs.TrimLaws.{trimmed-length, trimmed-short}
 use Rattle.stackmap_table.proofs.WrittenLaws.{short-of, rises-behind, offset-behind}

@@ -1,4 +1,4 @@
-use Rattle.std.proofs.Common.{◌≡◌, length, ◌++◌, sym, ap, ◌∙◌, arith}
+use Rattle.std.proofs.Common.{length, ◌++◌, sym, ap, ◌∙◌, arith}
 use Rattle.std.proofs.lemmas.Bool.{eq-eqb, true≢false}
 use Rattle.stackmap_table.specs.Written.{half}
 use Rattle.stackmap_table.proofs.WrittenLaws.{some-frames-table, tabled-count}

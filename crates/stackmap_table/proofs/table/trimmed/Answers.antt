@@ -1,4 +1,4 @@
-use Rattle.std.proofs.Common.{◌≡◌, ◌∷◌, [], ◌++◌, sym, ap, ◌∙◌}
+use Rattle.std.proofs.Common.{◌∷◌, [], ◌++◌, sym, ap, ◌∙◌}
 use Rattle.jvm_definition.specs.declared.kind.Kind.TheVariants.{Top}
 use Rattle.stackmap_table.specs.Shortest.{trimmed_locals}
 use Rattle.stackmap_table.proofs.PrefixLaws.{same-is, not-same}
