@@ -1,5 +1,5 @@
 -- Pools with more entries.
-use Rattle.std.proofs.Common.{◌≡◌, ℕ, zero, suc, ◌+◌, ◌-◌, ◌^◌, ◌<◌, ◌≤◌, ◌⊎◌, inl, inr, ⊎_elim, Bool, true, false, ◌||◌, eqb, ltb, List, [], ◌∷◌, ◌++◌, length, Option, Some, None, refl, sym, ap, subst, ◌∙◌, arith, append_assoc, append-nil}
+use Rattle.std.proofs.Common.{◌≡◌, ℕ, zero, suc, ◌+◌, ◌-◌, ◌<◌, ◌≤◌, ◌⊎◌, inl, inr, ⊎_elim, Bool, true, false, ◌||◌, List, [], ◌∷◌, ◌++◌, length, Option, Some, None, refl, sym, ap, subst, ◌∙◌, arith, append_assoc, append-nil}
 use Rattle.std.specs.Prelude.{if◌then◌else◌, codes, unwrap_or, IsSome, is_some, slice_get}
 use Rattle.std.specs.List.{position_from}
 use Rattle.std.specs.Option.{option_and_then}
@@ -13,7 +13,7 @@ use Rattle.class_definition.specs.NameGrammar.{same_text, is_array_name}
 use Rattle.class_definition.specs.MemberNames.{is_known}
 use Rattle.class_definition.specs.Utf8 as texts
 use Rattle.class_definition.specs.PoolEntries.{utf8_of, class_entry_name}
-use Rattle.class_definition.specs.PoolChecks.{pool, entry_at, text_at, class_text_at, pool_entry_fault}
+use Rattle.class_definition.specs.PoolChecks.{entry_at, text_at, class_text_at, pool_entry_fault}
 use Rattle.constant_pool.specs.Slots.{IsAt}
 use Rattle.class_definition.specs.Tables.{is_table_name, table_slot}
 use Rattle.class_names.proofs.NumberLemmas.{same_text-refl}
@@ -312,6 +312,76 @@ class-text entries name n e =
     ap (λ o. option_and_then (text_at entries) (option_and_then class_entry_name o)) f.1
     ∙ (ap (λ x. option_and_then (text_at entries) (class_entry_name x)) c.1 ∙ (t.1 ∙ ap (λ x. Some x) (equal-texts t.0 name t.2)))
 
+-- no slot before the first one passes the test
+least-from : (test : Entry → Bool) (from : ℕ) (entries : List Entry) (n i : ℕ) (e : Entry) → position_from test from entries ≡ Some n → slice_get entries i ≡ Some e → test e ≡ true → n ≤ from + i
+least-from test from [] n i e found is passes = absurd (none-some e is)
+least-from test from (x ∷ entries) n zero e found is passes =
+    let here : position_from test from (x ∷ entries) ≡ Some from = ap (λ b. if b then Some from else position_from test (from + 1) entries) (ap test (same_Some x e is) ∙ passes) in
+    omega (arith, same_Some from n (sym here ∙ found))
+least-from test from (x ∷ entries) n (suc i) e found is passes = by-test (test x) (λ k. least-from test (from + 1) entries n i e k is passes) found
+  where
+    by-test : (b : Bool) → (position_from test (from + 1) entries ≡ Some n → n ≤ from + 1 + i) → (if b then Some from else position_from test (from + 1) entries) ≡ Some n → n ≤ from + suc i
+    by-test true others k = omega (arith, same_Some from n k)
+    by-test false others k = omega (arith, others k)
+
+-- the entry in a slot
+got-at : (entries : List Entry) (slot : ℕ) (e : Entry) → entry_at entries slot ≡ Some e → (i : ℕ) × (slot ≡ suc i) × (slice_get entries i ≡ Some e)
+got-at entries zero e h = absurd (none-some e h)
+got-at entries (suc i) e h =
+    let back : suc i - 1 ≡ i = omega arith in
+    let there : entry_at entries (suc i) ≡ slice_get entries (suc i - 1) = ap (λ b. if b then None else slice_get entries (suc i - 1)) (ne_eqb (suc i) 0 (λ z. omega (arith, z))) in
+    (i, refl, ap (slice_get entries) (sym back) ∙ (sym there ∙ h))
+
+-- a class in a slot has a name
+class-in : (entries : List Entry) (slot : ℕ) (name : List ℕ) → class_text_at entries slot ≡ Some name → (e : Entry) × (entry_at entries slot ≡ Some e) × (is_class_of_name entries name e ≡ true)
+class-in entries slot name h = by-entry (entry_at entries slot) refl h
+  where
+    by-entry : (o : Option Entry) → entry_at entries slot ≡ o → option_and_then (text_at entries) (option_and_then class_entry_name o) ≡ Some name → (e : Entry) × (entry_at entries slot ≡ Some e) × (is_class_of_name entries name e ≡ true)
+    by-entry (Some (ClassName n)) is k = (ClassName n, is, same-is name (text_at entries n) k)
+    by-entry _ is k = absurd (none-some name k)
+
+least-class : (entries : List Entry) (name : List ℕ) (n slot : ℕ) → class_slot name entries ≡ Some n → class_text_at entries slot ≡ Some name → n ≤ slot
+least-class entries name n slot found h =
+    let c = class-in entries slot name h in
+    let at = got-at entries slot c.0 c.1 in
+    let least = least-from (is_class_of_name entries name) 1 entries n at.0 c.0 found at.2 c.2 in
+    omega (arith, at.1, least)
+
+abbrev kind_by : Bool → Bool → Bool → Option Kind
+kind_by a b c = if a then Some kinds.Ints else if b then Some kinds.Pages else if c then Some kinds.Text else None
+
+-- a type of references is that of one name
+one-name : (kind : Kind) (first second : List ℕ) → reference_kind (Some first) ≡ Some kind → reference_kind (Some second) ≡ Some kind → second ≡ first
+one-name kind first second h k =
+    by-tests (same_text first (codes "[I")) (same_text first (codes "[[I")) (same_text first (codes "java/lang/String"))
+    (same_text second (codes "[I")) (same_text second (codes "[[I")) (same_text second (codes "java/lang/String")) refl refl refl refl refl refl h k
+  where
+    both : (text : List ℕ) → same_text first text ≡ true → same_text second text ≡ true → second ≡ first
+    both text p q = equal-texts second text q ∙ sym (equal-texts first text p)
+
+    by-tests : (a b c x y z : Bool) → same_text first (codes "[I") ≡ a → same_text first (codes "[[I") ≡ b → same_text first (codes "java/lang/String") ≡ c
+        → same_text second (codes "[I") ≡ x → same_text second (codes "[[I") ≡ y → same_text second (codes "java/lang/String") ≡ z
+        → kind_by a b c ≡ Some kind → kind_by x y z ≡ Some kind → second ≡ first
+    by-tests true b c true y z a-is b-is c-is x-is y-is z-is p q = both (codes "[I") a-is x-is
+    by-tests false true c false true z a-is b-is c-is x-is y-is z-is p q = both (codes "[[I") b-is y-is
+    by-tests false false true false false true a-is b-is c-is x-is y-is z-is p q = both (codes "java/lang/String") c-is z-is
+    by-tests false false false x y z a-is b-is c-is x-is y-is z-is p q = absurd (none-some kind p)
+    by-tests a b c false false false a-is b-is c-is x-is y-is z-is p q = absurd (none-some kind q)
+    by-tests true b c false true z a-is b-is c-is x-is y-is z-is p q = absurd cc
+    by-tests true b c false false true a-is b-is c-is x-is y-is z-is p q = absurd cc
+    by-tests false true c true y z a-is b-is c-is x-is y-is z-is p q = absurd cc
+    by-tests false true c false false true a-is b-is c-is x-is y-is z-is p q = absurd cc
+    by-tests false false true true y z a-is b-is c-is x-is y-is z-is p q = absurd cc
+    by-tests false false true false true z a-is b-is c-is x-is y-is z-is p q = absurd cc
+
+-- the name of the class in a slot that names a type
+named-in : (entries : List Entry) (slot : ℕ) (kind : Kind) (name : List ℕ) → reference_kind (Some name) ≡ Some kind → kind_at entries slot ≡ Some kind → class_text_at entries slot ≡ Some name
+named-in entries slot kind name is h = by-text (class_text_at entries slot) h
+  where
+    by-text : (o : Option (List ℕ)) → reference_kind o ≡ Some kind → o ≡ Some name
+    by-text None k = absurd (none-some kind k)
+    by-text (Some text) k = ap (λ x. Some x) (one-name kind name text is k)
+
 names-kind : (entries : List Entry) (name : List ℕ) (kind : Kind) (slot : ℕ) → IsSome (class_slot name entries) → length entries ≤ 65534 → reference_kind (Some name) ≡ Some kind → slot ≡ unwrap_or (class_slot name entries) 0 → NamesKind entries slot kind
 names-kind entries name kind slot h few is e =
     let s = some-of (class_slot name entries) h in
@@ -320,6 +390,7 @@ names-kind entries name kind slot h few is e =
     record {
       near = omega (arith, same, near, few);
       is = ap (kind_at entries) same ∙ (ap reference_kind (class-text entries name s.0 s.1) ∙ is);
+      lowest = λ other there. omega (arith, same, least-class entries name s.0 other s.1 (named-in entries other kind name is there));
     }
 
 pub framed-references : (old : List Entry) (slots : ReferenceSlots) → length (framed_pool old) ≤ 65534 → slots.ints ≡ unwrap_or (class_slot (codes "[I") (framed_pool old)) 0 → slots.pages ≡ unwrap_or (class_slot (codes "[[I") (framed_pool old)) 0 → slots.text ≡ unwrap_or (class_slot (codes "java/lang/String") (framed_pool old)) 0 → AreReferences (framed_pool old) slots

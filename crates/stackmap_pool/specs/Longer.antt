@@ -1,6 +1,6 @@
 -- A constant pool with the entries that tables of frames name. Each is put at the end where it is missing; where an entry is there
 -- more than once the first one is meant.
-use Rattle.std.specs.Prelude.{◌≡◌, ℕ, ◌≤◌, Bool, false, if◌then◌else◌, List, [], ◌∷◌, ◌++◌, codes, Option, Some, None, is_some, unwrap_or}
+use Rattle.std.specs.Prelude.{ℕ, Bool, false, if◌then◌else◌, List, [], ◌∷◌, ◌++◌, codes, Option, Some, None, is_some, unwrap_or}
 use Rattle.std.specs.List.{position_from}
 use Rattle.class_definition.specs.declared.entry.Entry.{Entry}
 use Rattle.class_definition.specs.declared.entry.Entry.TheVariants.{Utf8, ClassName}

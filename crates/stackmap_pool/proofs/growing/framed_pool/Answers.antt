@@ -1,4 +1,4 @@
-use Rattle.std.proofs.Common.{◌≡◌, ◌<◌, ◌≤◌, true, false, sym, ap, subst, ◌∙◌, length, arith, Ok, List}
+use Rattle.std.proofs.Common.{◌<◌, ap, subst, ◌∙◌, length, Ok, List}
 use Rattle.std.specs.Prelude.{codes}
 use Rattle.class_definition.specs.declared.entry.Entry.{Entry}
 use Rattle.stackmap_pool.specs.Longer.{with_text, with_class_entry}

@@ -1,4 +1,4 @@
-use Rattle.std.proofs.Common.{◌≡◌, true, false, sym, ap, ◌∙◌, length, leb, arith, Ok}
+use Rattle.std.proofs.Common.{◌≡◌, true, false, ap, ◌∙◌, length, leb, arith}
 use Rattle.std.proofs.lemmas.Bool.{leb-true, leb-false}
 use Rattle.stackmap_pool.specs.Longer.{with_class_of}
 use Rattle.stackmap_pool.proofs.PoolLaws.{class-length, text-length, class-put}

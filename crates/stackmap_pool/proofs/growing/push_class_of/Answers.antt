@@ -1,4 +1,4 @@
-use Rattle.std.proofs.Common.{◌≡◌, Some, sym, ap, ◌∙◌, arith, length}
+use Rattle.std.proofs.Common.{◌≡◌, Some, sym, ap, ◌∙◌, arith}
 use Rattle.stackmap_pool.specs.Longer.{is_text_entry, first_text_slot}
 use Rattle.stackmap_pool.proofs.PoolLaws.{slot-near}
 use Rattle.stackmap_pool.proofs.growing.push_class_of.Goals as goal

@@ -1,4 +1,4 @@
-use Rattle.std.proofs.Common.{◌≡◌, true, false, sym, ap, ◌∙◌, [], ◌∷◌, ◌++◌}
+use Rattle.std.proofs.Common.{sym, ap, ◌∙◌, [], ◌∷◌, ◌++◌}
 use Rattle.std.specs.Prelude.{is_some}
 use Rattle.class_definition.specs.declared.entry.Entry.TheVariants.{Utf8}
 use Rattle.stackmap_pool.specs.Longer.{first_text_slot}
