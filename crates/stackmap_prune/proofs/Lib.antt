@@ -6,3 +6,4 @@ pub mod MarkLaws
 pub mod LinkedLaws
 pub mod LeastFacts
 pub mod TabledLaws
+pub mod DeterminedLaws

@@ -1,6 +1,6 @@
 -- The frames that are listed for pruned code are those that have to be.
-use Rattle.std.proofs.Common.{◌≡◌, ℕ, zero, suc, ◌+◌, ◌≤◌, ◌⊎◌, inl, inr, Bool, true, false, ◌&&◌, ◌||◌, eqb, List, [], ◌∷◌, ◌++◌, take, length, append_assoc, append-nil, Option, Some, None, refl, sym, ap, ◌∙◌, arith, ⊎_elim}
-use Rattle.std.specs.Prelude.{if◌then◌else◌, IsSome, is_some, ◌↔◌, Contains, not, option_map, slice_get}
+use Rattle.std.proofs.Common.{◌≡◌, ℕ, zero, suc, ◌⊎◌, inl, inr, Bool, true, false, ◌&&◌, ◌||◌, eqb, List, [], ◌∷◌, Option, Some, None, refl, sym, ap, ◌∙◌, arith, ⊎_elim}
+use Rattle.std.specs.Prelude.{if◌then◌else◌, IsSome, is_some, ◌↔◌, Contains, not, option_map}
 use Rattle.std.specs.List.{list_any}
 use Rattle.std.proofs.lemmas.Bool.{and_parts, and_from, eqb-true, eq-eqb, false≢true}
 use Rattle.std.proofs.lemmas.Option.{same_Some, none-some}
@@ -15,9 +15,7 @@ use Rattle.jvm_type_inference.specs.Reached.{Reached}
 use Rattle.type_verifier.specs.Typings.{listed_frames, RisesFrom}
 use Rattle.frame_maps.specs.Framed.{HasLine}
 use Rattle.frame_maps.proofs.FramedLaws.{here, there, stands}
-use Rattle.stackmap_table.specs.Last.{last_locals}
-use Rattle.stackmap_table.proofs.MeaningLaws.{locals-pushed}
-use Rattle.stackmap_prune.specs.Listing.{AllBefore, is_entered_by, must_list, frame_in, listed_frame, listing, listing_of}
+use Rattle.stackmap_prune.specs.Listing.{is_entered_by, must_list, frame_in, listed_frame, listing, listing_of}
 use Rattle.stackmap_prune.specs.Pruned.{MustList, IsPruned, IsListing}
 use Rattle.stackmap_prune.proofs.SearchLaws.{frames-are, rises-weak}
 

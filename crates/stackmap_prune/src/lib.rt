@@ -7,6 +7,6 @@ mod listing;
 mod marks;
 mod pruning;
 
-pub use laws::pruned_code_is_framed;
+pub use laws::{pruned_code_is_framed, pruning_is_determined};
 pub use listing::listing_of;
 pub use pruning::pruned_method;

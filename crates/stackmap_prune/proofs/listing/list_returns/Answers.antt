@@ -1,4 +1,4 @@
-use Rattle.std.proofs.Common.{◌≡◌, ◌+◌, ◌++◌, [], ◌∷◌, sym, ap, ◌∙◌, append-nil}
+use Rattle.std.proofs.Common.{◌+◌, ◌++◌, [], ◌∷◌, sym, ap, ◌∙◌, append-nil}
 use Rattle.stackmap_prune.specs.Linked.{is_marked, linked_returns}
 use Rattle.stackmap_prune.proofs.LinkedLaws.{more, return_at, listed-more, linked-next}
 use Rattle.stackmap_prune.proofs.listing.list_returns.Goals as goal

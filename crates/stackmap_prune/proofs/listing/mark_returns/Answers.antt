@@ -1,4 +1,4 @@
-use Rattle.std.proofs.Common.{◌≡◌, ◌<◌, length, true, ap, ◌∙◌, arith}
+use Rattle.std.proofs.Common.{◌≡◌, length, true, ap, ◌∙◌, arith}
 use Rattle.std.proofs.lemmas.List.{length-set}
 use Rattle.stackmap_prune.proofs.LinkedLaws.{return-marked}
 use Rattle.stackmap_prune.proofs.listing.mark_returns.Goals as goal

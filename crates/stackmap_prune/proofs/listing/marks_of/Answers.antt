@@ -1,4 +1,4 @@
-use Rattle.std.proofs.Common.{◌≡◌, ◌<◌, ◌||◌, length, sym, ap, subst, ◌∙◌, arith}
+use Rattle.std.proofs.Common.{sym, subst, arith}
 use Rattle.jvm_definition.specs.Program.{LaidFrom}
 use Rattle.stackmap_prune.specs.Pruned.{return_of}
 use Rattle.stackmap_prune.specs.Linked.{is_marked, pruned_linked}

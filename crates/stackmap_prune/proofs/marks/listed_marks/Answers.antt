@@ -1,6 +1,5 @@
-use Rattle.std.proofs.Common.{◌≡◌, ◌<◌, length, sym, ap, subst, ◌∙◌}
+use Rattle.std.proofs.Common.{length, sym, ap, subst, ◌∙◌}
 use Rattle.std.proofs.lemmas.List.{length-set}
-use Rattle.stackmap_prune.specs.Linked.{is_marked}
 use Rattle.stackmap_prune.specs.Listing.{AreListedBefore}
 use Rattle.stackmap_prune.proofs.MarkLaws.{first-marked, all-listed}
 use Rattle.stackmap_prune.proofs.marks.listed_marks.Goals as goal

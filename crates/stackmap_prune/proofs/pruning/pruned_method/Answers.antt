@@ -1,4 +1,4 @@
-use Rattle.std.proofs.Common.{◌≡◌, refl, sym, ap, subst, ◌∙◌, List, ℕ, Bool}
+use Rattle.std.proofs.Common.{◌≡◌, refl, sym, ap, subst, ◌∙◌, List, ℕ}
 use Rattle.class_definition.specs.Code.{Lines}
 use Rattle.stackmap_prune.specs.Code.{is_listed, pruned_lines, has_dead, raised, KeepsTargets}
 use Rattle.stackmap_prune.specs.Linked.{is_marked}
