@@ -5,6 +5,7 @@ pub mod ClosedLaws
 pub mod ClassLaws
 pub mod ProgramLaws
 pub mod FramedLaws
+pub mod DeterminedLaws
 pub mod NameLaws
 pub mod LinkLaws
 pub mod InstructionLaws

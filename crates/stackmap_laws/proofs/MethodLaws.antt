@@ -49,7 +49,7 @@ use Rattle.emit_classes.proofs.Classes.{named_code}
 
 -- ---- the lines of a code
 
-good-code : (code : List ℕ) → code_fault code ≡ None → length code ≤ 65535
+pub good-code : (code : List ℕ) → code_fault code ≡ None → length code ≤ 65535
 good-code code h = by-test (is_bad_length (length code)) refl _ h
   where
     by-test : (b : Bool) → is_bad_length (length code) ≡ b → (o : Option CodeFault) → (if b then Some (record { at = 0; kind = 5 }) else o) ≡ None → length code ≤ 65535

@@ -43,3 +43,11 @@ pub fn framed_classes_run_the_same<M: Machine, V: Server>()
         → SameRuns guest (jvm_turn (program_of framed) words) V.reply allowance g
         (jvm_start (program_of framed)) k }
 {}
+
+/// Framed classes are determined by the classes before, and their tables by both.
+pub fn framed_classes_are_determined()
+    ensures classes { (classes first second : List Class) → AreFramed classes first
+        → AreFramed classes second → first ≡ second }
+    ensures tables { (classes framed : List Class) (first second : List (List (List ℕ)))
+        → AreTables classes framed first → AreTables classes framed second → first ≡ second }
+{}

@@ -8,6 +8,7 @@ mod like_laws;
 
 pub use alike_laws::programs_run_alike;
 pub use framed_laws::{
-    framed_classes_are_accepted, framed_classes_pass, framed_classes_run_the_same,
+    framed_classes_are_accepted, framed_classes_are_determined, framed_classes_pass,
+    framed_classes_run_the_same,
 };
 pub use like_laws::like_classes_link;
