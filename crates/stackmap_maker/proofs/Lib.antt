@@ -5,3 +5,4 @@ pub mod Kept
 pub mod TypedLaws
 pub mod Steps
 pub mod Within
+pub mod DeterminedLaws

@@ -2,6 +2,7 @@
 #![tactic(auto)]
 
 mod classes;
+mod determined_laws;
 mod framing;
 mod methods;
 mod size_laws;
@@ -15,6 +16,7 @@ mod unframed;
 mod unmade;
 
 pub use classes::classes_with_tables;
+pub use determined_laws::frames_are_determined;
 pub use framing::{frames, verified_frames};
 pub use size_laws::sizes_are_lengths;
 pub use tabled_classes::TabledClasses;
