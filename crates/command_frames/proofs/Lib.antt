@@ -3,3 +3,4 @@ pub mod CheckLemmas
 pub mod StoreLemmas
 pub mod WriteLemmas
 pub mod TablingLemmas
+pub mod DeterminedLemmas

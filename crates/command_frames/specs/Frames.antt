@@ -7,7 +7,7 @@ use Rattle.class_definition.specs.declared.class.Class.{Class}
 use Rattle.class_definition.specs.declared.framed_class.FramedClass.{FramedClass}
 use Rattle.class_definition.specs.FramedClassFile.{SpellsFramed}
 use Rattle.frame_maps.specs.declared.frame_error.FrameError.{FrameError}
-use Rattle.class_sets.specs.ClassSets.{class_set, file_of}
+use Rattle.class_sets.specs.ClassSets.{file_of}
 use Rattle.class_sets.specs.declared.loaded.Loaded.{Loaded}
 use Rattle.class_sets.specs.NamedSets.{named_set}
 use Rattle.class_sets.specs.Plain.{loaded_of, loaded_names}

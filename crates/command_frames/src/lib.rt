@@ -4,6 +4,7 @@
 
 mod checking;
 mod framed_sets;
+mod laws;
 mod stored_class;
 mod storing;
 mod tabling;
@@ -11,3 +12,4 @@ mod writing;
 
 pub use checking::check;
 pub use framed_sets::frames;
+pub use laws::frames_are_determined;
