@@ -1,11 +1,9 @@
 -- A call that failed.
-use Rattle.std.proofs.Common.{◌≡◌, ◌+◌, ◌<◌, ◌==◌, inl, inr, ℕ, zero, suc, true, if◌then◌else◌, List, [], ◌∷◌, ◌++◌, length, drop, Option, Err, refl, ap, sym, ◌∙◌, subst, arith, append-nil, append_assoc}
-use Rattle.std.specs.Io.KnownBytes.{Appends}
+use Rattle.std.proofs.Common.{◌≡◌, ◌+◌, ◌<◌, ◌==◌, inl, inr, ℕ, zero, suc, true, if◌then◌else◌, List, [], ◌∷◌, ◌++◌, length, drop, Option, Some, None, Err, refl, ap, sym, ◌∙◌, subst, arith, append-nil, append_assoc}
 use Rattle.std.proofs.Math.Seq.{drop-append_seam}
 use Rattle.std.proofs.lemmas.Option.{same_Some}
 use Rattle.nv_outside.specs.Faults.{Rises}
-use Rattle.nv_outside.specs.Seen.{FailsIn, Seen}
-use Rattle.nv_outside.proofs.WriteLemmas.{Appends-both}
+use Rattle.nv_outside.specs.Seen.{Seen}
 use Rattle.run_definition.specs.Answer.{Answer}
 use Rattle.run_definition.specs.Question.{Question}
 use Rattle.run_definition.specs.Turn.{asks}
@@ -15,14 +13,14 @@ use Rattle.run_definition.specs.declared.outcome.Outcome.TheVariants.{Going}
 use Rattle.unix_definition.specs.System.{Console, System, with_console}
 use Rattle.unix_definition.specs.Unix.{reply, unix}
 use Rattle.unix_calls.specs.Held.{system_of}
-use Rattle.unix_calls.specs.Drawing.{known}
+use Rattle.unix_calls.specs.Drawing.{AreBytes, known}
 use Rattle.unix_calls.specs.Serving.{Fell, OneFails, parts, written_by}
-use Rattle.unix_calls.proofs.BreakLemmas.{reply-written, some-written}
+use Rattle.unix_calls.specs.Stages.{IsRear}
+use Rattle.unix_calls.proofs.BreakLemmas.{reply-written}
 use Rattle.jvm_definition.specs.Step.{Loaded, loaded_turn}
-use Rattle.unix_pipe_laws.specs.Stages.{PipeStage, after_turn, answered_by, comes_to, output_of}
+use Rattle.unix_pipe_laws.specs.Stages.{PipeStage, after_turn, answered_by, comes_to, input_left, output_of}
 use Rattle.unix_pipe_laws.specs.Pipelines.{Pipeline, PipeNet, can_turn, next_turn, is_ready}
 use Rattle.unix_pipe_laws.specs.Turns.{PipeTurn, AllHappen, gained, run_turns, turned_stage}
-use Rattle.unix_pipe_laws.proofs.Runs.{turn-adds}
 use Rattle.unix_pipe_laws.proofs.Turning.{own-stage}
 use Rattle.pipe_net.specs.declared.inlet.Inlet.{Inlet}
 use Rattle.pipe_net.specs.declared.inlet.Inlet.TheVariants as inlet
@@ -30,13 +28,13 @@ use Rattle.pipe_net.specs.declared.net_fault.NetFault.{NetFault}
 use Rattle.pipe_net.specs.declared.net_fault.NetFault.TheVariants.{Io, NoMemory}
 use Rattle.pipe_net.specs.declared.outlet.Outlet.{Outlet}
 use Rattle.pipe_net.specs.declared.outlet.Outlet.TheVariants as outlet
-use Rattle.pipe_net.specs.Ports.{FallsThrough, Kept, OtherInput, OtherOutput, Ports, input_at, kept_seen, output_at}
-use Rattle.pipe_net.specs.Executing.{Fails, Scene}
+use Rattle.pipe_net.specs.Ports.{FallsThrough, Kept, OtherInput, OtherOutput, Ports, input_at, kept_seen, output_at, ready_for}
+use Rattle.pipe_net.specs.Executing.{Scene}
 use Rattle.pipe_net.specs.Settling.{net_fault_of}
 use Rattle.pipe_net.specs.Turning.{AreOf, CountsFaults, IsPartOf, SameFaults}
 use Rattle.pipe_net.proofs.Turns.{happen-more, of-more, run-one}
-use Rattle.pipe_net.proofs.Standing.{can-turn, ready-alike}
-use Rattle.pipe_net.proofs.Stepping.{Loses, Since, loses-nothing, turn_at}
+use Rattle.pipe_net.proofs.Standing.{InletIs, can-turn, ready-alike}
+use Rattle.pipe_net.proofs.Stepping.{Loses, Since, comes-so, loses-nothing, piece_at, quiet-at, turn_at}
 use Rattle.pipe_net.proofs.Walking.{Walked, still-going}
 
 -- ---- the failed call, over the input and the output of the stage
@@ -109,7 +107,7 @@ pub fell-loses : (l : Inlet) (o : Outlet) (m y : Ports) (q : Question) (fault : 
 fell-loses l o m y q ReadFault f = (f.fell.got, f.fell.consumed)
 fell-loses l o m y q WriteFault f = loses-nothing l m y f.fell.input
 
--- ---- what the failed call was to write
+-- ---- what the failed call was to do
 
 comes-nothing : (i : ℕ) (s : System) → comes_to i [] s ≡ s
 comes-nothing zero s = ap (λ r. with_console s (record s.console { rest = r })) (append-nil s.console.rest)
@@ -121,129 +119,114 @@ kept-bytes j k is = same_Some j.bytes k.bytes (ap (λ (z : Seen (List ℕ)). z.t
 part-itself : (xs : List ℕ) → IsPartOf xs xs
 part-itself xs = record { rest = []; is = sym (append-nil xs) }
 
-module _ (p : Pipeline Loaded) (i : ℕ) (turn_is : p.turn ≡ loaded_turn) (start : PipeNet Loaded) (within : i < p.count) (x mid y : Scene) (n : ℕ) (a : Walked p i start x mid Going n) (few : (start.stage i).made + n < p.bound) (fault : IoFault) (fails : Fails mid y fault) where
-  abbrev q : Question
-  q = fails.0
+-- error output has what was written to it before the failed call
+pub errors-part : (l : Inlet) (o : Outlet) (m y : Ports) (q : Question) (fault : IoFault) → FallsAt l o m y q fault → IsPartOf m.errors.bytes y.errors.bytes
+errors-part l o m y q fault f = by fault f
+  where
+    same : kept_seen y.errors ≡ kept_seen m.errors → IsPartOf m.errors.bytes y.errors.bytes
+    same is = subst (λ k. IsPartOf m.errors.bytes k) (sym (kept-bytes y.errors m.errors is)) (part-itself m.errors.bytes)
 
-  abbrev next : Answer → Loaded
-  next = fails.1
+    by-sinks : OneFails (written_by (λ s. unix s q) m.unix (known (input_at l m).told)) (parts m.unix (input_at l m) (output_at o m.sink m.behind) (kept_seen m.errors)) (parts y.unix (input_at l y) (output_at o y.sink y.behind) (kept_seen y.errors))
+        → IsPartOf m.errors.bytes y.errors.bytes
+    by-sinks (inl h) = same h.1
+    by-sinks (inr h) = record { rest = h.1.0.front; is = h.1.0.gained }
 
+    by : (fault : IoFault) → FallsAt l o m y q fault → IsPartOf m.errors.bytes y.errors.bytes
+    by ReadFault f = same f.fell.err
+    by WriteFault f = by-sinks f.fell.sinks
+
+module _ (p : Pipeline Loaded) (i : ℕ) (turn_is : p.turn ≡ loaded_turn) (start : PipeNet Loaded) (within : i < p.count) (x mid y : Scene) (n : ℕ) (a : Walked p i start x mid Going n) (few : (start.stage i).made + n < p.bound) (q : Question) (next : Answer → Loaded) (asked : loaded_turn mid.state ≡ asks q next) (ready : ready_for mid.ports q ≡ true) where
   abbrev net : PipeNet Loaded
   net = run_turns p start a.turns
 
   abbrev before : PipeStage Loaded
   before = net.stage i
 
-  abbrev t : PipeTurn
-  t = turn_at p i [] 0
-
-  abbrev own : PipeStage Loaded
-  own = turned_stage p net t
-
-  abbrev all : List PipeTurn
-  all = a.turns ++ t ∷ []
-
-  next-turn-is : next_turn p net i ≡ asks q next
-  next-turn-is = (λ j. turn_is j (a.stands.own.machine j)) ∙ fails.2
+  pub next-turn-is : next_turn p net i ≡ asks q next
+  next-turn-is = (λ j. turn_is j (a.stands.own.machine j)) ∙ asked
 
   can : can_turn p net i ≡ true
   can =
       can-turn p i net within (still-going p i before a.stands.own.ended (let m = a.made in omega arith))
-      (ap (is_ready p net i) next-turn-is ∙ (ready-alike p i net mid Going q next a.stands ∙ fails.3.ready))
+      (ap (is_ready p net i) next-turn-is ∙ (ready-alike p i net mid Going q next a.stands ∙ ready))
 
-  stage-is : (run_turns p start all).stage i ≡ own
-  stage-is = ap (λ (k : PipeNet Loaded). k.stage i) (run-one p start a.turns t can) ∙ own-stage p net t
-
-  pub all-of : AreOf i all
-  all-of = of-more i a.turns t a.of_stage refl
-
-  pub all-happen : AllHappen p start all
-  all-happen = happen-more p start a.turns t a.happen can
-
-  gained-made : gained (start.stage i) before ≡ a.w
+  pub gained-made : gained (start.stage i) before ≡ a.w
   gained-made = ap (drop (length (output_of (start.stage i)))) a.changed.output ∙ drop-append_seam (output_of (start.stage i)) a.w
 
-  gained-all : (v : List ℕ) → output_of own ≡ output_of before ++ v → gained (start.stage i) ((run_turns p start all).stage i) ≡ a.w ++ v
-  gained-all v wrote =
-      ap (λ (s : PipeStage Loaded). drop (length (output_of (start.stage i))) (output_of s)) stage-is
-      ∙ (ap (drop (length (output_of (start.stage i)))) (wrote ∙ (ap (λ l. l ++ v) a.changed.output ∙ append_assoc (output_of (start.stage i)) a.w v))
-      ∙ drop-append_seam (output_of (start.stage i)) (a.w ++ v))
+  -- the failed turn, before which this piece of input comes
+  module _ (piece : List ℕ) where
+    abbrev t : PipeTurn
+    t = turn_at p i piece 0
+
+    abbrev own : PipeStage Loaded
+    own = turned_stage p net t
+
+    abbrev all : List PipeTurn
+    all = a.turns ++ t ∷ []
+
+    stage-is : (run_turns p start all).stage i ≡ own
+    stage-is = ap (λ (k : PipeNet Loaded). k.stage i) (run-one p start a.turns t can) ∙ own-stage p net t
+
+    pub all-of : AreOf i all
+    all-of = of-more i a.turns t a.of_stage refl
+
+    pub all-happen : AllHappen p start all
+    all-happen = happen-more p start a.turns t a.happen can
 
   -- what the stage's input has
-  abbrev rest : List ℕ
-  rest = known (input_at x.ports.inlet mid.ports).told
+  abbrev from : Inlet
+  from = x.ports.inlet
+
+  from-is : InletIs p i net from
+  from-is = subst (InletIs p i net) a.since.others.inlet a.stands.from
+
+  pub system-is : before.system ≡ system_of mid.ports.unix (known (input_at from mid.ports).told) (output_of before) mid.ports.errors.bytes
+  system-is = a.stands.own.system ∙ (λ j. system_of mid.ports.unix (known (input_at (a.since.others.inlet j) mid.ports).told) (output_of before) mid.ports.errors.bytes)
+
+  -- ---- a call that writes
 
   abbrev whole : System
-  whole = system_of mid.ports.unix rest (output_of before) mid.ports.errors.bytes
+  whole = system_of mid.ports.unix (known (input_at from mid.ports).told) (output_of before) mid.ports.errors.bytes
 
-  system-is : comes_to i [] before.system ≡ whole
-  system-is =
-      comes-nothing i before.system
-      ∙ (a.stands.own.system ∙ (λ j. system_of mid.ports.unix (known (input_at (a.since.others.inlet j) mid.ports).told) (output_of before) mid.ports.errors.bytes))
+  abbrev pub to_write : Console
+  to_write = written_by (λ s. unix s q) mid.ports.unix (known (input_at from mid.ports).told)
 
-  abbrev to_write : Console
-  to_write = written_by (λ s. unix s q) mid.ports.unix rest
-
-  writes-all : (to_write.output ≡ [] → to_write.error_output ≡ [] → ⊥) → output_of own ≡ output_of before ++ to_write.output
+  writes-all : (to_write.output ≡ [] → to_write.error_output ≡ [] → ⊥) → output_of (own []) ≡ output_of before ++ to_write.output
   writes-all some =
       ap output_of (ap (after_turn (comes_to i []) before) next-turn-is)
-      ∙ ap (λ (o : Option (Answer × System)). output_of (answered_by before next o)) (ap (λ k. reply k q) system-is ∙ reply-written whole q some)
+      ∙ ap (λ (o : Option (Answer × System)). output_of (answered_by before next o)) (ap (λ k. reply k q) (comes-nothing i before.system ∙ system-is) ∙ reply-written whole q some)
 
-  abbrev place : Outlet
-  place = x.ports.outlet
+  pub gained-all : (to_write.output ≡ [] → to_write.error_output ≡ [] → ⊥) → gained (start.stage i) ((run_turns p start (all [])).stage i) ≡ a.w ++ to_write.output
+  gained-all some =
+      ap (λ (s : PipeStage Loaded). drop (length (output_of (start.stage i))) (output_of s)) (stage-is [])
+      ∙ (ap (drop (length (output_of (start.stage i)))) (writes-all some ∙ (ap (λ l. l ++ to_write.output) a.changed.output ∙ append_assoc (output_of (start.stage i)) a.w to_write.output))
+      ∙ drop-append_seam (output_of (start.stage i)) (a.w ++ to_write.output))
 
-  -- What the sink and error output have behind the failed call.
-  pub record HasPart : Type 0 where
-    pub part : List ℕ
-    pub has_made : IsPartOf (gained (start.stage i) before) part
-    pub is_part : IsPartOf part (gained (start.stage i) ((run_turns p start all).stage i))
-    pub took : Appends (output_at place x.ports.sink x.ports.behind).told (output_at place y.ports.sink y.ports.behind).told part
-    pub errors : IsPartOf mid.ports.errors.bytes y.ports.errors.bytes
+  -- ---- one that reads
 
-  abbrev out_then : Seen (List ℕ)
-  out_then = output_at place mid.ports.sink mid.ports.behind
+  module _ (o : Outlet) (f : FallsAt from o mid.ports y.ports q ReadFault) where
+    abbrev left : List ℕ
+    left = known (input_at from y.ports).told
 
-  abbrev out_now : Seen (List ℕ)
-  out_now = output_at place y.ports.sink y.ports.behind
+    abbrev read : System
+    read = system_of mid.ports.unix (f.fell.got ++ left) (output_of before) mid.ports.errors.bytes
 
-  -- nothing further was written to output
-  takes-no-more : out_now ≡ out_then → IsPartOf mid.ports.errors.bytes y.ports.errors.bytes → HasPart
-  takes-no-more same errors =
-      let adds = turn-adds i [] before (next_turn p net i) in
-      record {
-        part = a.w;
-        has_made = subst (λ l. IsPartOf (gained (start.stage i) before) l) gained-made (part-itself (gained (start.stage i) before));
-        is_part = record { rest = adds.wrote; is = gained-all adds.wrote adds.grows };
-        took = subst (λ (z : Seen (List ℕ)). Appends (output_at place x.ports.sink x.ports.behind).told z.told a.w) (sym same) a.since.took.0;
-        errors = errors;
-      }
+    -- what the source lost in it, and has, where it does not tell that before
+    abbrev pub lost_piece : List ℕ
+    lost_piece = piece_at from mid.ports.source.told (f.fell.got ++ left)
 
-  -- a part was
-  takes-part : FailsIn out_then out_now to_write.output → IsPartOf mid.ports.errors.bytes y.ports.errors.bytes → HasPart
-  takes-part failed errors =
-      let f = failed.0 in
-      let some = λ (none : to_write.output ≡ []) (no_error : to_write.error_output ≡ []). some-written out_then out_now to_write.output failed none in
-      record {
-        part = a.w ++ f.front;
-        has_made = record { rest = f.front; is = ap (λ l. l ++ f.front) (sym gained-made) };
-        is_part = record {
-          rest = f.next ∷ f.rest;
-          is = gained-all to_write.output (writes-all some) ∙ (ap (λ l. a.w ++ l) f.splits ∙ sym (append_assoc a.w f.front (f.next ∷ f.rest)));
-        };
-        took = Appends-both (output_at place x.ports.sink x.ports.behind).told out_then.told out_now.told a.w f.front a.since.took.0 f.gained;
-        errors = errors;
-      }
+    comes-read : comes_to i lost_piece before.system ≡ read
+    comes-read = ap (comes_to i lost_piece) system-is ∙ comes-so p i from net mid.ports y.ports (output_of before) mid.ports.errors.bytes f.fell.got from-is f.fell.consumed
 
-  same-errors : kept_seen y.ports.errors ≡ kept_seen mid.ports.errors → IsPartOf mid.ports.errors.bytes y.ports.errors.bytes
-  same-errors same = subst (λ l. IsPartOf mid.ports.errors.bytes l) (sym (kept-bytes y.ports.errors mid.ports.errors same)) (part-itself mid.ports.errors.bytes)
+    pub rear-left : AreBytes left → IsRear (input_left ((run_turns p start (all lost_piece)).stage i)) left
+    rear-left small =
+        let reads = f.fell.reads left (output_of before) mid.ports.errors.bytes small in
+        let given = unix read q in
+        let is : (run_turns p start (all lost_piece)).stage i ≡ answered_by before next (Some given) =
+        stage-is lost_piece
+        ∙ (ap (after_turn (comes_to i lost_piece) before) next-turn-is
+        ∙ (ap (λ k. answered_by before next (reply k q)) comes-read ∙ ap (λ c. answered_by before next (if c then Some given else None)) reads.fits)) in
+        subst (λ (s : PipeStage Loaded). IsRear (input_left s) left) (sym is) reads.leaves
 
-  part-by : (fault : IoFault) → FallsAt x.ports.inlet place mid.ports y.ports q fault → HasPart
-  part-by ReadFault f = takes-no-more f.fell.out (same-errors f.fell.err)
-  part-by WriteFault f = by-sinks f.fell.sinks
-    where
-      by-sinks : OneFails to_write (parts mid.ports.unix (input_at x.ports.inlet mid.ports) out_then (kept_seen mid.ports.errors)) (parts y.ports.unix (input_at x.ports.inlet y.ports) out_now (kept_seen y.ports.errors)) → HasPart
-      by-sinks (inl h) = takes-part h.0 (same-errors h.1)
-      by-sinks (inr h) = takes-no-more h.0 (record { rest = h.1.0.front; is = h.1.0.gained })
-
-  pub has-part : HasPart
-  has-part = part-by fault (falls-at x.ports mid.ports y.ports q fault a.w a.since fails.3)
+    pub lost-quiet : (rest : List ℕ) → x.ports.source.told ≡ Some rest → lost_piece ≡ []
+    lost-quiet rest is = let m = a.since.told rest is in quiet-at from mid.ports.source.told (f.fell.got ++ left) m.0 m.1

@@ -8,13 +8,13 @@ pub mod Failing
 pub mod Moved
 pub mod Modelled
 pub mod Made
+pub mod Outputs
 pub mod Stopped
 pub mod Giving
 pub mod Resting
 pub mod Making
 pub mod ServedLemmas
 pub mod Executions
-pub mod Outputs
 pub mod Coming
 pub mod Leaving
 pub mod RoundLemmas

@@ -1,5 +1,5 @@
 -- What turns of the model do to the output of its stages.
-use Rattle.std.proofs.Common.{◌≡◌, ◌≢◌, ℕ, Bool, true, false, inl, inr, if◌then◌else◌, List, [], ◌∷◌, ◌++◌, length, drop, refl, ap, sym, ◌∙◌, append_assoc, append-nil}
+use Rattle.std.proofs.Common.{◌≡◌, ◌≢◌, ℕ, Bool, true, false, inl, inr, if◌then◌else◌, List, [], ◌∷◌, ◌++◌, length, drop, refl, ap, sym, ◌∙◌, subst, append_assoc, append-nil}
 use Rattle.std.proofs.Math.Seq.{drop-append_seam}
 use Rattle.std.proofs.lemmas.Bool.{cases_eq}
 use Rattle.jvm_definition.specs.Step.{Loaded}
@@ -9,6 +9,7 @@ use Rattle.unix_pipe_laws.specs.Turns.{PipeTurn, gained, happens, run_turns, tur
 use Rattle.unix_pipe_laws.proofs.Runs.{turn-adds}
 use Rattle.unix_pipe_laws.proofs.Turning.{own-stage, same-output}
 use Rattle.pipe_net.specs.Turning.{AreOf}
+use Rattle.pipe_net.proofs.Turns.{run-more}
 
 -- an output and what is further written behind it
 pub record Grows (old new : PipeStage Loaded) : Type 0 where
@@ -48,6 +49,11 @@ module _ (p : Pipeline Loaded) where
   run-grows net [] j = grows-nothing (net.stage j) (net.stage j) refl
   run-grows net (t ∷ turns) j =
       grows-both (net.stage j) ((happens p net t).stage j) ((run_turns p (happens p net t) turns).stage j) (happens-grows net t j) (run-grows (happens p net t) turns j)
+
+  -- one more at their end
+  pub run-one-grows : (net : PipeNet Loaded) (turns : List PipeTurn) (t : PipeTurn) (j : ℕ) → Grows ((run_turns p net turns).stage j) ((run_turns p net (turns ++ t ∷ [])).stage j)
+  run-one-grows net turns t j =
+      subst (λ (k : PipeNet Loaded). Grows ((run_turns p net turns).stage j) (k.stage j)) (sym (run-more p net turns t)) (happens-grows (run_turns p net turns) t j)
 
   -- turns of one stage leave the output of the others
   happens-leaves : (net : PipeNet Loaded) (t : PipeTurn) (j : ℕ) → j ≢ t.stage → output_of ((happens p net t).stage j) ≡ output_of (net.stage j)

@@ -130,7 +130,7 @@ fed-system u out errs None left got c = ap (λ l. system_of (with_ahead u []) (l
 fed-system u out errs (Some xs) None got c = absurd c
 fed-system u out errs (Some xs) (Some ys) got c = ap (λ l. system_of (with_ahead u []) l out errs) (append-nil (u.ahead ++ xs) ∙ ap (λ l. u.ahead ++ l) c)
 
-quiet-at : (l : Inlet) (told : Option (List ℕ)) (got rest : List ℕ) → told ≡ Some rest → piece_at l told got ≡ []
+pub quiet-at : (l : Inlet) (told : Option (List ℕ)) (got rest : List ℕ) → told ≡ Some rest → piece_at l told got ≡ []
 quiet-at inlet.Source told got rest is = ap (λ (o : Option (List ℕ)). piece_at inlet.Source o got) is
 quiet-at (inlet.Pipe fed) told got rest is = refl
 
@@ -189,7 +189,7 @@ pub ends-since : (n : ℕ) (x mid y : Scene) (o : Outcome) → Walks n x mid →
 ends-since n x mid y o h e = some-both x.ports mid.ports y.ports (walks-since n x mid h) (end-since mid y o (loaded_turn mid.state) e.1 e.0)
 
 module _ (p : Pipeline Loaded) (i : ℕ) where
-  comes-so : (l : Inlet) (net : PipeNet Loaded) (x y : Ports) (out errs got : List ℕ) → InletIs p i net l → Consumes (input_at l x).told (input_at l y).told got
+  pub comes-so : (l : Inlet) (net : PipeNet Loaded) (x y : Ports) (out errs got : List ℕ) → InletIs p i net l → Consumes (input_at l x).told (input_at l y).told got
       → comes_to i (piece_at l x.source.told (got ++ known (input_at l y).told)) (system_of x.unix (rest_at p i l x) out errs) ≡ system_of x.unix (got ++ known (input_at l y).told) out errs
   comes-so inlet.Source net x y out errs got is c =
       ap (λ j. comes_to j (piece_at inlet.Source x.source.told (got ++ known y.source.told)) (system_of x.unix (known x.source.told) out errs)) is

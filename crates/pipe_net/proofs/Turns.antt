@@ -26,9 +26,17 @@ module _ (p : Pipeline Loaded) where
   happen-more net [] t all can = (can, tt)
   happen-more net (u ∷ turns) t all can = (all.0, happen-more (happens p net u) turns t all.1 can)
 
+  pub happen-both : (net : PipeNet Loaded) (turns more : List PipeTurn) → AllHappen p net turns → AllHappen p (run_turns p net turns) more → AllHappen p net (turns ++ more)
+  happen-both net [] more a b = b
+  happen-both net (u ∷ turns) more a b = (a.0, happen-both (happens p net u) turns more a.1 b)
+
 pub of-more : (i : ℕ) (turns : List PipeTurn) (t : PipeTurn) → AreOf i turns → t.stage ≡ i → AreOf i (turns ++ t ∷ [])
 of-more i [] t all is = (is, tt)
 of-more i (u ∷ turns) t all is = (all.0, of-more i turns t all.1 is)
+
+pub of-end : (i : ℕ) (turns : List PipeTurn) (t : PipeTurn) → AreOf i (turns ++ t ∷ []) → t.stage ≡ i
+of-end i [] t all = all.0
+of-end i (u ∷ turns) t all = of-end i turns t all.1
 
 pub nothing-more : (turns : List PipeTurn) (t : PipeTurn) → BringNothing turns → t.piece ≡ [] → BringNothing (turns ++ t ∷ [])
 nothing-more [] t all is = (is, tt)

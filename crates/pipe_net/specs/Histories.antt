@@ -1,5 +1,5 @@
 -- What turns of a net, none of which failed, come to from its start on.
-use Rattle.std.specs.Prelude.{◌≡◌, ◌<◌, ℕ, suc, true, false, List, Option, Some, None, Result, Err, MatchResult, slice_get}
+use Rattle.std.specs.Prelude.{◌≡◌, ◌<◌, ℕ, suc, true, false, List, Option, Some, None, Result, MatchResult, slice_get}
 use Rattle.std.specs.Io.KnownBytes.{Appends, Consumes}
 use Rattle.nv_outside.specs.Seen.{Seen, Takes}
 use Rattle.run_definition.specs.Run.{Run}
@@ -9,13 +9,14 @@ use Rattle.unix_calls.specs.Stages.{LosesRead}
 use Rattle.jvm_definition.specs.Step.{Loaded}
 use Rattle.unix_pipe_laws.specs.Stages.{output_of}
 use Rattle.unix_pipe_laws.specs.Pipelines.{Pipeline, PipeNet}
-use Rattle.unix_pipe_laws.specs.Turns.{PipeTurn, BringNothing, net_at_start, run_turns}
+use Rattle.unix_pipe_laws.specs.Turns.{PipeTurn, AllHappen, BringNothing, net_at_start, run_turns}
+use Rattle.unix_pipe_laws.specs.Stopping.{StopsInTurn}
 use Rattle.unix_pipe_laws.specs.Alone.{first_run, first_run_arriving, run_alone_of}
 use Rattle.pipe_net.specs.declared.net.Net.{Net}
 use Rattle.pipe_net.specs.declared.net_fault.NetFault.{NetFault}
 use Rattle.pipe_net.specs.Moving.{over_in}
 use Rattle.pipe_net.specs.Showing.{Shows, stage_count}
-use Rattle.pipe_net.specs.Turning.{CountsFaults, IsPartOf, errors_of, outcomes_of}
+use Rattle.pipe_net.specs.Turning.{IsPartOf, errors_of, outcomes_of, outside_fault}
 
 -- the model of a pipeline behind some turns
 abbrev pub model_of : Pipeline Loaded → List PipeTurn → PipeNet Loaded
@@ -26,6 +27,7 @@ model_of p turns = run_turns p (net_at_start p) turns
 pub record HasCome (p : Pipeline Loaded) (net : Net)
     (source source_now sink sink_now : Seen (List ℕ)) : Type 0 where
   pub turns : List PipeTurn
+  pub happen : AllHappen p (net_at_start p) turns
   pub shows : Shows net (known source_now.told) p (model_of p turns)
   pub got : List ℕ
   pub lost : Consumes source.told source_now.told got
@@ -63,13 +65,11 @@ pub record EndsInOrder (p : Pipeline Loaded) (net : Net)
   pub input : LosesRead source source_now
       (first_run_over p source.told pieces).system.console.rest
 
--- A turn failed: the source lost a front part of what it had, and the sink has a front part of what the last stage writes so.
+-- A turn failed: what is done is what the turns until then do, and the sink has a front part of what the last stage writes so.
 pub record StopsInOrder (p : Pipeline Loaded) (source source_now sink sink_now : Seen (List ℕ))
     (fault : NetFault) : Type 0 where
+  pub stops : StopsInTurn p (outside_fault fault) source source_now sink sink_now
   pub pieces : List (List ℕ)
-  pub counts : CountsFaults source source_now sink sink_now (Err fault)
-  pub got : List ℕ
-  pub lost : Consumes source.told source_now.told got
   pub part : List ℕ
   pub took : Appends sink.told sink_now.told part
   pub is_part : (last : ℕ) → suc last ≡ p.count → IsPartOf part

@@ -1,14 +1,16 @@
 -- What a turn of a stage does to its net.
-use Rattle.std.specs.Prelude.{◌≡◌, ◌≢◌, ◌⊎◌, ◌≤◌, ◌<◌, ◌+◌, ◌-◌, ℕ, suc, true, false, List, [], ◌∷◌, ◌++◌, length, map, Some, Result, Ok, Err, slice_get}
+use Rattle.std.specs.Prelude.{◌≡◌, ◌≢◌, ◌⊎◌, ◌≤◌, ◌<◌, ◌+◌, ◌-◌, ℕ, suc, true, false, List, [], ◌∷◌, ◌++◌, length, map, Option, Some, None, Result, Ok, Err, slice_get}
 use Rattle.std.specs.Io.KnownBytes.{Appends, Consumes}
 use Rattle.nv_outside.specs.Faults.{Rises}
 use Rattle.nv_outside.specs.Seen.{Seen}
+use Rattle.run_definition.specs.declared.io_fault.IoFault.{IoFault}
 use Rattle.run_definition.specs.declared.io_fault.IoFault.TheVariants.{ReadFault, WriteFault}
 use Rattle.run_definition.specs.declared.outcome.Outcome.{Outcome}
 use Rattle.unix_calls.specs.Drawing.{known}
 use Rattle.jvm_definition.specs.Step.{Loaded}
 use Rattle.unix_pipe_laws.specs.Pipelines.{Pipeline, PipeNet, is_over_at, stands_ready}
 use Rattle.unix_pipe_laws.specs.Turns.{PipeTurn, AllHappen, BringNothing, gained, run_turns}
+use Rattle.unix_pipe_laws.specs.Stopping.{FailsTurn, last_stage}
 use Rattle.jvm_machine.specs.Counting.{count_of}
 use Rattle.pipe_net.specs.declared.net.Net.{Net}
 use Rattle.pipe_net.specs.declared.net_fault.NetFault.{NetFault}
@@ -108,21 +110,24 @@ pub record IsPartOf (part all : List ℕ) : Type 0 where
   pub rest : List ℕ
   pub is : all ≡ part ++ rest
 
--- These turns of the model were made, and stay made; one more could be made, and failed. The sink got what the former wrote, and a front part of
--- what the latter was to write.
-pub record StopsIn (p : Pipeline Loaded) (model : PipeNet Loaded) (i m : ℕ) (old new : Net)
-    (source source_now sink sink_now : Seen (List ℕ)) : Type 0 where
+-- the fault of the outside, where it is one
+abbrev pub outside_fault : NetFault → Option IoFault
+outside_fault (Io fault) = Some fault
+outside_fault NoMemory = None
+
+-- These turns of the model were made, and stay made; one more could be made, and failed. The source lost and the sink took what the former do, and
+-- of the latter only what was done of it.
+pub record StopsIn (p : Pipeline Loaded) (model : PipeNet Loaded) (i m : ℕ) (fault : NetFault)
+    (old new : Net) (source source_now sink sink_now : Seen (List ℕ)) : Type 0 where
   pub made : List PipeTurn
   pub failed : PipeTurn
   pub of_stage : AreOf i (made ++ failed ∷ [])
   pub happen : AllHappen p model (made ++ failed ∷ [])
   pub few : length made < m
+  pub fails : FailsTurn (outside_fault fault) p (run_turns p model made)
+      (run_turns p model (made ++ failed ∷ [])) i
+      (λ net. gained (last_stage p model) (last_stage p net)) source source_now sink sink_now
   pub draws : DrawsInput i source source_now
-  pub part : List ℕ
-  pub has_made : IsPartOf (gained (model.stage i) ((run_turns p model made).stage i)) part
-  pub is_part : IsPartOf part
-      (gained (model.stage i) ((run_turns p model (made ++ failed ∷ [])).stage i))
-  pub last : suc i ≡ p.count → Appends sink.told sink_now.told part
   pub others : suc i ≢ p.count → sink_now.told ≡ sink.told
   -- where the source tells its rest, all of it is there from the first
   pub told : (rest : List ℕ) → source.told ≡ Some rest → BringNothing (made ++ failed ∷ [])
@@ -137,4 +142,4 @@ abbrev pub TurnGives : Pipeline Loaded → PipeNet Loaded → ℕ → ℕ → Ne
 TurnGives p model i m old new source source_now sink sink_now (Ok turn) =
     MakesTurns p model i m turn new source source_now sink sink_now
 TurnGives p model i m old new source source_now sink sink_now (Err fault) =
-    StopsIn p model i m old new source source_now sink sink_now
+    StopsIn p model i m fault old new source source_now sink sink_now

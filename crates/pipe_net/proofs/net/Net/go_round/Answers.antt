@@ -62,4 +62,4 @@ returns-in_err-turn-clause-comes g c p first first_out fresh came =
     let mid_came = invariant.comes p first first_out fresh came in
     let same : c.from_residual.result ≡ Err fault = failed.1 ∙ ap Err failed.2 in
     subst (λ (r : Result (Unit {0}) NetFault). ComesOn p c.turn.new.self first source_now first_out sink_now r) (sym same)
-    (stops-in-order p first first_out c.loop-i.self source sink mid_came fresh c.loop-i.i c.args.m c.turn.new.self fault source_now sink_now (ensures.gives p (model_of p mid_came.turns) mid_came.shows) ensures.counts (p.count - 1) (let some = c.requires.going.1 in omega (arith, some, came.shows.count_is)))
+    (stops-in-order p first first_out c.loop-i.self source sink mid_came fresh c.loop-i.i c.args.m c.turn.new.self fault source_now sink_now (ensures.gives p (model_of p mid_came.turns) mid_came.shows) (p.count - 1) (let some = c.requires.going.1 in omega (arith, some, came.shows.count_is)))
