@@ -1,15 +1,19 @@
 -- How deeds follow one another.
 use Rattle.std.proofs.Common.{◌≡◌, ℕ, Bool, true, false, List, [], ◌∷◌, ◌++◌, Option, Some}
 use Rattle.std.proofs.Common.{None, Result, Ok, Err, Vec, Global, option_map, refl, sym, ◌∙◌, ap, subst, inl, inr}
-use Rattle.std.specs.Io.KnownBytes.{Appends, Consumes}
 use Rattle.nv_outside.specs.Faults.{CountsFailure, shelf_failed}
 use Rattle.nv_outside.specs.Files.{AgreeWith, Files, Finds, OthersStay, SameFiles, SetsFile, Stores}
+use Rattle.run_definition.specs.declared.io_fault.IoFault.{IoFault}
+use Rattle.run_definition.specs.declared.io_fault.IoFault.TheVariants as io
 use Rattle.unix_calls.specs.Stages.{ComesTo, LosesRead, StopsRun}
+use Rattle.jvm_definition.specs.Step.{Loaded}
+use Rattle.unix_pipe_laws.specs.Pipelines.{Pipeline}
+use Rattle.unix_pipe_laws.specs.Stopping.{StopsInTurn}
 use Rattle.nv_outside.specs.declared.shelf_error.ShelfError.{ShelfError}
 use Rattle.nv_outside.specs.declared.shelf_error.ShelfError.TheVariants as shelf
 use Rattle.command_deeds.specs.declared.stop.Stop.{Stop}
 use Rattle.command_deeds.specs.declared.stop.Stop.TheVariants.{ReadFault, WriteFault, ShelfFault, NoMemory}
-use Rattle.command_deeds.specs.Deeds.{Deed, prepares, stores, prints, plays, pipes, tells, CountsStop, DoesDeed, StopsDeed, StopsPipes, DoesAll, StopsIn}
+use Rattle.command_deeds.specs.Deeds.{Deed, prepares, stores, prints, plays, pipes, tells, DoesDeed, StopsDeed, StopsPipes, DoesAll, StopsIn}
 use Rattle.command_words.specs.declared.named.Named.{Named}
 use Rattle.command_deeds.specs.declared.ending.Ending.{Ending}
 use Rattle.command_deeds.specs.Checks.{Check, file_at, file_that_is_named, there}
@@ -79,16 +83,16 @@ only_out_then w u v p q = (same_then_shelf w.shelf u.shelf v.shelf p.0 q.0, q.1 
 only_err_then : (w u v : World) → Stays w u → OnlyErr u v → OnlyErr w v
 only_err_then w u v p q = (same_then_shelf w.shelf u.shelf v.shelf p.0 q.0, q.1 ∙ p.1.0, q.2 ∙ p.1.1)
 
-stays_then_pipes : (output : List ℕ) (w u v : World) (stop : Stop) → OnlyShelf w u → StopsPipes output u v stop → StopsPipes output w v stop
-stays_then_pipes output w u v stop p q = record {
-  counts = subst (λ o. CountsStop stop w.input v.input o v.out) p.1 (subst (λ i. CountsStop stop i v.input u.out v.out) p.0 q.counts);
-  got = q.got;
-  lost = subst (λ i. Consumes i.told v.input.told q.got) p.0 q.lost;
-  part = q.part;
-  rest = q.rest;
-  is_part = q.is_part;
-  took = subst (λ o. Appends o.told v.out.told q.part) p.1 q.took;
-}
+stays_then_turn : (p : Pipeline Loaded) (failure : Option IoFault) (w u v : World) → OnlyShelf w u → StopsInTurn p failure u.input v.input u.out v.out
+    → StopsInTurn p failure w.input v.input w.out v.out
+stays_then_turn p failure w u v only q =
+    subst (λ o. StopsInTurn p failure w.input v.input o v.out) only.1 (subst (λ i. StopsInTurn p failure i v.input u.out v.out) only.0 q)
+
+stays_then_pipes : (p : Pipeline Loaded) (w u v : World) (stop : Stop) → OnlyShelf w u → StopsPipes p u v stop → StopsPipes p w v stop
+stays_then_pipes p w u v ReadFault only q = stays_then_turn p (Some io.ReadFault) w u v only q
+stays_then_pipes p w u v WriteFault only q = stays_then_turn p (Some io.WriteFault) w u v only q
+stays_then_pipes p w u v ShelfFault only q = absurd q
+stays_then_pipes p w u v NoMemory only q = stays_then_turn p None w u v only q
 
 same_streams : (w u : World) → OnlyShelf w u → streams_of u ≡ streams_of w
 same_streams w u only = λ i. record { input = only.0 i; out = only.1 i; err = only.2 i }
@@ -99,7 +103,7 @@ stays_then_deed (stores name bytes) w u v p q = (same_then_sets w.shelf u.shelf 
 stays_then_deed (prints text) w u v p q = (subst (λ o. Takes o v.out text) p.1.1 q.0, only_out_then w u v p q.1)
 stays_then_deed (plays turns stage) w u v p q =
     (same_then_shelf w.shelf u.shelf v.shelf p.0 q.0, subst (λ s. ComesTo (stage turns) s (streams_of v)) (same_streams w u p.1) q.1)
-stays_then_deed (pipes left output) w u v p q = (
+stays_then_deed (pipes line left output) w u v p q = (
   same_then_shelf w.shelf u.shelf v.shelf p.0 q.0,
   subst (λ i. LosesRead i v.input left) p.1.0 q.1,
   subst (λ o. Takes o v.out output) p.1.1 q.2,
@@ -115,8 +119,8 @@ stays_then_stop (plays turns stage) w u v stop p q = (
   same_then_shelf w.shelf u.shelf v.shelf p.0 q.0,
   (q.1.0, q.1.1, subst (λ s. StopsRun turns stage q.1.0 s (streams_of v)) (same_streams w u p.1) q.1.2),
 )
-stays_then_stop (pipes left output) w u v stop p q =
-    (same_then_shelf w.shelf u.shelf v.shelf p.0 q.0, q.1 ∙ p.1.2, stays_then_pipes output w u v stop p.1 q.2)
+stays_then_stop (pipes line left output) w u v stop p q =
+    (same_then_shelf w.shelf u.shelf v.shelf p.0 q.0, q.1 ∙ p.1.2, stays_then_pipes line w u v stop p.1 q.2)
 stays_then_stop (tells text) w u v stop p q = (q.0, subst (λ e. FailsIn e v.err text) p.1.2 q.1, only_err_then w u v p q.2)
 
 pub stays_then_all : (deeds : List Deed) (w u v : World) → Stays w u → DoesAll deeds u v → DoesAll deeds w v

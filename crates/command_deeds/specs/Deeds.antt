@@ -1,12 +1,15 @@
 -- What a command is to do, deed by deed, and what is left of it where it was stopped.
-use Rattle.std.specs.Prelude.{◌≡◌, ◌⊎◌, ◌++◌, ℕ, List, [], ◌∷◌}
-use Rattle.std.specs.Io.KnownBytes.{Appends, Consumes}
+use Rattle.std.specs.Prelude.{◌≡◌, ◌⊎◌, ℕ, List, [], ◌∷◌, Some, None}
 use Rattle.run_definition.specs.declared.io_fault.IoFault.{IoFault}
+use Rattle.run_definition.specs.declared.io_fault.IoFault.TheVariants as io
 use Rattle.unix_calls.specs.Stages.{ComesTo, LosesRead, Stage, StopsRun}
+use Rattle.jvm_definition.specs.Step.{Loaded}
+use Rattle.unix_pipe_laws.specs.Pipelines.{Pipeline}
+use Rattle.unix_pipe_laws.specs.Stopping.{StopsInTurn}
 use Rattle.command_deeds.specs.Stops.{stop_of}
 use Rattle.command_deeds.specs.declared.stop.Stop.{Stop}
 use Rattle.command_deeds.specs.declared.stop.Stop.TheVariants.{ReadFault, WriteFault, ShelfFault, NoMemory}
-use Rattle.command_deeds.specs.World.{FailsIn, OnlyErr, OnlyOut, OnlyShelf, Rises, SameShelf, Seen, Sets, Stays, StopsPrint, StopsStore, Takes, World, streams_of}
+use Rattle.command_deeds.specs.World.{FailsIn, OnlyErr, OnlyOut, OnlyShelf, SameShelf, Sets, Stays, StopsPrint, StopsStore, Takes, World, streams_of}
 
 pub data Deed : Type 0 where
   -- memory is taken, and nothing changes
@@ -17,32 +20,17 @@ pub data Deed : Type 0 where
   prints : List ℕ → Deed
   -- a guest runs for so many turns: after each number of them it stands so
   plays : ℕ → (ℕ → Stage) → Deed
-  -- a pipeline runs: its first stage leaves so much of input, and its last one writes this
-  pipes : List ℕ → List ℕ → Deed
+  -- this pipeline runs: its first stage leaves so much of input, and its last one writes this
+  pipes : Pipeline Loaded → List ℕ → List ℕ → Deed
   -- a text is written to error output
   tells : List ℕ → Deed
 
--- what happened to the counts of input and output where a pipeline was stopped
-abbrev pub CountsStop : Stop → Seen (List ℕ) → Seen (List ℕ) → Seen (List ℕ) → Seen (List ℕ)
-    → Type 0
-CountsStop ReadFault input input_now out out_now =
-    Rises input.faults input_now.faults × (out_now.faults ≡ out.faults)
-CountsStop WriteFault input input_now out out_now =
-    (input_now.faults ≡ input.faults) × Rises out.faults out_now.faults
-CountsStop ShelfFault input input_now out out_now = ⊥
-CountsStop NoMemory input input_now out out_now =
-    (input_now.faults ≡ input.faults) × (out_now.faults ≡ out.faults)
-
--- A pipeline was stopped that was to write this: input lost a front part of what it had, and output
--- took a front part of what it was to.
-pub record StopsPipes (output : List ℕ) (w v : World) (stop : Stop) : Type 0 where
-  pub counts : CountsStop stop w.input v.input w.out v.out
-  pub got : List ℕ
-  pub lost : Consumes w.input.told v.input.told got
-  pub part : List ℕ
-  pub rest : List ℕ
-  pub is_part : output ≡ part ++ rest
-  pub took : Appends w.out.told v.out.told part
+-- A pipeline was stopped in a turn, which works on no file.
+abbrev pub StopsPipes : Pipeline Loaded → World → World → Stop → Type 0
+StopsPipes p w v ReadFault = StopsInTurn p (Some io.ReadFault) w.input v.input w.out v.out
+StopsPipes p w v WriteFault = StopsInTurn p (Some io.WriteFault) w.input v.input w.out v.out
+StopsPipes p w v ShelfFault = ⊥
+StopsPipes p w v NoMemory = StopsInTurn p None w.input v.input w.out v.out
 
 -- what a deed does
 abbrev pub DoesDeed : Deed → World → World → Type 0
@@ -51,7 +39,7 @@ DoesDeed (stores name bytes) w v = Sets w.shelf v.shelf name bytes × OnlyShelf 
 DoesDeed (prints text) w v = Takes w.out v.out text × OnlyOut w v
 DoesDeed (plays turns stage) w v = SameShelf w.shelf v.shelf
     × ComesTo (stage turns) (streams_of w) (streams_of v)
-DoesDeed (pipes left output) w v = SameShelf w.shelf v.shelf × LosesRead w.input v.input left
+DoesDeed (pipes p left output) w v = SameShelf w.shelf v.shelf × LosesRead w.input v.input left
     × Takes w.out v.out output
     × (v.err ≡ w.err)
 DoesDeed (tells text) w v = Takes w.err v.err text × OnlyErr w v
@@ -64,8 +52,8 @@ StopsDeed (prints text) w v stop = StopsPrint w.out v.out text stop × OnlyOut w
 StopsDeed (plays turns stage) w v stop =
     SameShelf w.shelf v.shelf × ((fault : IoFault) × (stop ≡ stop_of fault)
     × StopsRun turns stage fault (streams_of w) (streams_of v))
-StopsDeed (pipes left output) w v stop = SameShelf w.shelf v.shelf × (v.err ≡ w.err)
-    × StopsPipes output w v stop
+StopsDeed (pipes p left output) w v stop = SameShelf w.shelf v.shelf × (v.err ≡ w.err)
+    × StopsPipes p w v stop
 StopsDeed (tells text) w v stop = (stop ≡ WriteFault) × FailsIn w.err v.err text × OnlyErr w v
 
 -- all deeds are done, one after the other
