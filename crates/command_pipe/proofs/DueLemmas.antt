@@ -7,12 +7,13 @@ use Rattle.run_definition.specs.Run.{Run}
 use Rattle.run_definition.specs.declared.io_fault.IoFault.TheVariants.{ReadFault, WriteFault}
 use Rattle.unix_definition.specs.System.{System}
 use Rattle.unix_pipe_laws.specs.Pipelines.{Pipeline}
+use Rattle.unix_pipe_laws.specs.Stopping.{StopsInTurn}
 use Rattle.unix_pipe_laws.specs.Alone.{run_alone_of}
 use Rattle.jvm_definition.specs.Step.{Loaded}
 use Rattle.class_definition.specs.declared.class.Class.{Class}
 use Rattle.pipe_net.specs.Histories.{EndsInOrder, StopsInOrder, first_run_over}
 use Rattle.pipe_net.specs.Showing.{stage_count}
-use Rattle.pipe_net.specs.Turning.{CountsFaults, errors_of, outcomes_of}
+use Rattle.pipe_net.specs.Turning.{errors_of, outcomes_of, outside_fault}
 use Rattle.pipe_net.specs.declared.net.Net.{Net}
 use Rattle.pipe_net.specs.declared.net_fault.NetFault.{NetFault}
 use Rattle.pipe_net.specs.declared.net_fault.NetFault.TheVariants.{Io, NoMemory}
@@ -20,7 +21,7 @@ use Rattle.pipe_net.specs.declared.stage.Stage.{Stage}
 use Rattle.command_words.specs.declared.named_class.NamedClass.{NamedClass}
 use Rattle.command_deeds.proofs.DeedLemmas.{same_shelf, stays}
 use Rattle.command_deeds.proofs.PieceLemmas.{Joins}
-use Rattle.command_deeds.specs.Deeds.{CountsStop, DoesDeed, pipes}
+use Rattle.command_deeds.specs.Deeds.{DoesDeed, StopsPipes, pipes}
 use Rattle.command_deeds.specs.Ends.{CommandAnswer, Comes, Due, answers, says}
 use Rattle.command_deeds.specs.Line.{pieces_joined}
 use Rattle.command_deeds.specs.World.{FailsIn, SameShelf, Takes, World, world}
@@ -41,12 +42,12 @@ pub all-joined : (old now : Seen (List ℕ)) (all later : List (List ℕ)) → l
 all-joined old now all later none j =
     subst (λ text. Takes old now text) (sym (j.splits ∙ ap (λ l. j.gained ++ pieces_joined l) none ∙ append-nil j.gained)) j.took
 
--- ---- counts
+-- ---- what is done at a stop
 
-counts-stop : (fault : NetFault) (a b c d : Seen (List ℕ)) → CountsFaults a b c d (Err fault) → CountsStop (net_stop fault) a b c d
-counts-stop (Io ReadFault) a b c d h = h
-counts-stop (Io WriteFault) a b c d h = h
-counts-stop NoMemory a b c d h = h
+stops-pipes : (p : Pipeline Loaded) (w v : World) (fault : NetFault) → StopsInTurn p (outside_fault fault) w.input v.input w.out v.out → StopsPipes p w v (net_stop fault)
+stops-pipes p w v (Io ReadFault) h = h
+stops-pipes p w v (Io WriteFault) h = h
+stops-pipes p w v NoMemory h = h
 
 module _ (launch : PipeLaunch) (classes : List NamedClass) (sets : List (List Class)) (some : 1 ≤ length classes) (w : World) where
   abbrev p : Pipeline Loaded
@@ -67,23 +68,10 @@ module _ (launch : PipeLaunch) (classes : List NamedClass) (sets : List (List Cl
   pub turn-failed : (v : World) (fault : NetFault) → v.shelf ≡ w.shelf → v.err ≡ w.err → StopsInOrder p w.input v.input w.out v.out fault
       → Comes true (IsDueOfSets classes launch sets) w v (Err (net_stop fault))
   turn-failed v fault shelf err s =
-      let part = s.is_part (length classes - 1) last-is in
       inr (
         due s.pieces,
         (s.pieces, refl),
-        inl (
-          subst (SameShelf w.shelf) (sym shelf) (same_shelf w.shelf),
-          err,
-          record {
-            counts = counts-stop fault w.input v.input w.out v.out s.counts;
-            got = s.got;
-            lost = s.lost;
-            part = s.part;
-            rest = part.rest;
-            is_part = part.is;
-            took = s.took;
-          },
-        ),
+        inl (subst (SameShelf w.shelf) (sym shelf) (same_shelf w.shelf), err, stops-pipes p w v fault s.stops),
       )
 
   -- ---- all stages ended
@@ -93,7 +81,7 @@ module _ (launch : PipeLaunch) (classes : List NamedClass) (sets : List (List Cl
     abbrev u : World
     u = world w.shelf input out w.err
 
-    pipes-done : DoesDeed (pipes (run e.pieces 0).system.console.rest (run e.pieces (length classes - 1)).system.console.output) w u
+    pipes-done : DoesDeed (pipes p (run e.pieces 0).system.console.rest (run e.pieces (length classes - 1)).system.console.output) w u
     pipes-done = (same_shelf w.shelf, e.input, e.output (length classes - 1) last-is, refl)
 
     errors-are : errors_of net ≡ each (λ i. (run e.pieces i).system.console.error_output) (length classes)

@@ -55,12 +55,12 @@ ended_so outcomes = record {
   stages = map (λ ended. Some ended) outcomes ++ replicate (8 - length outcomes) None;
 }
 
--- what is due of so many stages, where these are their runs one after the other
-abbrev pub of_stages : ℕ → (ℕ → Run Loaded System) → Due
-of_stages count run = record {
-  deeds = pipes (run 0).system.console.rest (run (count - 1)).system.console.output
-      ∷ tells (pieces_joined (each (λ i. (run i).system.console.error_output) count)) ∷ [];
-  answer = Some (says (Piped (ended_so (each (λ i. (run i).outcome) count))));
+-- what is due of this pipeline, where these are the runs of its stages one after the other
+abbrev pub of_stages : Pipeline Loaded → (ℕ → Run Loaded System) → Due
+of_stages p run = record {
+  deeds = pipes p (run 0).system.console.rest (run (p.count - 1)).system.console.output
+      ∷ tells (pieces_joined (each (λ i. (run i).system.console.error_output) p.count)) ∷ [];
+  answer = Some (says (Piped (ended_so (each (λ i. (run i).outcome) p.count))));
 }
 
 -- The first stage runs over all that input has, where it tells that, or else over these pieces of it, of
@@ -69,7 +69,7 @@ abbrev pub piped : PipeLaunch → List NamedClass → List (List Class) → Opti
     → List (List ℕ) → Due
 piped launch classes sets input pieces =
     let p = pipeline_for launch classes sets input in
-    of_stages (length classes) (run_alone_of p (first_run_over p input pieces))
+    of_stages p (run_alone_of p (first_run_over p input pieces))
 
 -- What `pipe` is to do with these classes.
 pub record IsDueOfPipe (classes : List NamedClass) (launch : PipeLaunch) (w : World) (due : Due)
