@@ -4,7 +4,9 @@ use Rattle.run_definition.specs.declared.io_fault.IoFault.{IoFault}
 use Rattle.run_definition.specs.declared.io_fault.IoFault.TheVariants as io
 use Rattle.nv_outside.specs.Faults.{CountsFailure}
 use Rattle.unix_calls.specs.Stages.{FailsCall, OneFailsBehind, Stage}
-use Rattle.command_deeds.specs.Deeds.{CountsStop, Deed, DoesAll, DoesDeed, StopsDeed, StopsIn, pipes, plays, prepares, prints, stores, tells}
+use Rattle.jvm_definition.specs.Step.{Loaded}
+use Rattle.unix_pipe_laws.specs.Pipelines.{Pipeline}
+use Rattle.command_deeds.specs.Deeds.{Deed, DoesAll, DoesDeed, StopsDeed, StopsIn, StopsPipes, pipes, plays, prepares, prints, stores, tells}
 use Rattle.command_deeds.specs.Ends.{CommandAnswer, Comes, Due, StopsEarly, is_stop}
 use Rattle.command_deeds.specs.Stops.{stop_of}
 use Rattle.command_deeds.specs.World.{FailsIn, Rises, StopsLoad, StopsPrint, StopsStore, World}
@@ -85,7 +87,7 @@ deed_sound prepares w v p = stays_sound w v p
 deed_sound (stores name bytes) w v p = on_shelf w v p.0.1 p.1
 deed_sound (prints text) w v p = sound w v p.1.0.1 (ap (λ i. i.faults) p.1.1) p.0.1 (ap (λ o. o.faults) p.1.2)
 deed_sound (plays turns stage) w v p = sound w v p.0.1 p.1.input.sound p.1.out.1 p.1.err.1
-deed_sound (pipes left output) w v p = sound w v p.0.1 p.1.sound p.2.1 (ap (λ o. o.faults) p.3)
+deed_sound (pipes line left output) w v p = sound w v p.0.1 p.1.sound p.2.1 (ap (λ o. o.faults) p.3)
 deed_sound (tells text) w v p = sound w v p.1.0.1 (ap (λ i. i.faults) p.1.1) (ap (λ o. o.faults) p.1.2) p.0.1
 
 all_sound : (deeds : List Deed) (w v : World) → DoesAll deeds w v → NoneFailed w v
@@ -149,22 +151,22 @@ call_says io.ReadFault w v before behind shelf p = record {
 }
 call_says io.WriteFault w v before behind shelf p = one_rises w v before behind shelf p.1.sound p.2
 
-pipes_say : (w v : World) (stop : Stop) → v.shelf.faults ≡ w.shelf.faults → v.err ≡ w.err → CountsStop stop w.input v.input w.out v.out
+pipes_say : (line : Pipeline Loaded) (w v : World) (stop : Stop) → v.shelf.faults ≡ w.shelf.faults → v.err ≡ w.err → StopsPipes line w v stop
     → StopSays stop w v
-pipes_say w v ReadFault shelf err counts = record {
+pipes_say line w v ReadFault shelf err stops = record {
   shelf_count = count_stays w.shelf.faults v.shelf.faults shelf;
-  input_count = count_rises w.input.faults v.input.faults counts.0;
-  out_count = count_stays w.out.faults v.out.faults counts.1;
+  input_count = count_rises w.input.faults v.input.faults stops.fails.input.rises;
+  out_count = count_stays w.out.faults v.out.faults stops.fails.output.1;
   err_count = count_stays w.err.faults v.err.faults (ap (λ o. o.faults) err);
 }
-pipes_say w v WriteFault shelf err counts = inl (record {
+pipes_say line w v WriteFault shelf err stops = inl (record {
   shelf_count = count_stays w.shelf.faults v.shelf.faults shelf;
-  input_count = count_stays w.input.faults v.input.faults counts.0;
-  out_count = count_rises w.out.faults v.out.faults counts.1;
+  input_count = count_stays w.input.faults v.input.faults stops.fails.input.sound;
+  out_count = count_rises w.out.faults v.out.faults stops.fails.output.rises;
   err_count = count_stays w.err.faults v.err.faults (ap (λ o. o.faults) err);
 })
-pipes_say w v ShelfFault shelf err counts = absurd counts
-pipes_say w v NoMemory shelf err counts = sound w v shelf counts.0 counts.1 (ap (λ o. o.faults) err)
+pipes_say line w v ShelfFault shelf err stops = absurd stops
+pipes_say line w v NoMemory shelf err stops = sound w v shelf stops.fails.input.sound stops.fails.output.1 (ap (λ o. o.faults) err)
 
 tells_say : (w v : World) (text : List ℕ) → FailsIn w.err v.err text → world.OnlyErr w v → StopSays WriteFault w v
 tells_say w v text fails only = inr (record {
@@ -181,7 +183,7 @@ stop_says (prints text) w v stop p = print_says w v text stop p.0 p.1
 stop_says (plays turns stage) w v stop p =
     let run = p.1.2 in
     subst (λ x. StopSays x w v) (sym p.1.1) (call_says p.1.0 w v (stage run.made) (stage (suc run.made)) p.0.1 run.fails)
-stop_says (pipes left output) w v stop p = pipes_say w v stop p.0.1 p.1 p.2.counts
+stop_says (pipes line left output) w v stop p = pipes_say line w v stop p.0.1 p.1 p.2
 stop_says (tells text) w v stop p = subst (λ x. StopSays x w v) (sym p.0) (tells_say w v text p.1 p.2)
 
 stop_behind : (w u v : World) (stop : Stop) → NoneFailed w u → StopSays stop u v → StopSays stop w v

@@ -44,7 +44,7 @@ is_quiet prepares = true
 is_quiet (stores name bytes) = true
 is_quiet (prints text) = false
 is_quiet (plays turns stage) = false
-is_quiet (pipes left output) = false
+is_quiet (pipes line left output) = false
 is_quiet (tells text) = false
 
 only-then : (w u v : World) → OnlyShelf w u → OnlyShelf u v → OnlyShelf w v
@@ -55,7 +55,7 @@ quiet-does prepares w v h p = p.1
 quiet-does (stores name bytes) w v h p = p.1
 quiet-does (prints text) w v h p = cc
 quiet-does (plays turns stage) w v h p = cc
-quiet-does (pipes left output) w v h p = cc
+quiet-does (pipes line left output) w v h p = cc
 quiet-does (tells text) w v h p = cc
 
 quiet-stops : (deed : Deed) (w v : World) (stop : Stop) → is_quiet deed ≡ true → StopsDeed deed w v stop → OnlyShelf w v
@@ -63,7 +63,7 @@ quiet-stops prepares w v stop h p = p.1.1
 quiet-stops (stores name bytes) w v stop h p = p.1
 quiet-stops (prints text) w v stop h p = cc
 quiet-stops (plays turns stage) w v stop h p = cc
-quiet-stops (pipes left output) w v stop h p = cc
+quiet-stops (pipes line left output) w v stop h p = cc
 quiet-stops (tells text) w v stop h p = cc
 
 and-parts : (a b : Bool) → (a && b) ≡ true → (a ≡ true) × (b ≡ true)

@@ -1,5 +1,5 @@
 -- That what refuses leaves all as it was.
-use Rattle.std.proofs.Common.{◌≡◌, ℕ, Bool, true, false, List, [], ◌∷◌, ◌++◌, Option, Some, None, option_map, length, Result, Ok, Err, IfErr, IfOk, refl, sym, ◌∙◌, ap, subst, inl, inr}
+use Rattle.std.proofs.Common.{◌≡◌, ℕ, Bool, true, false, List, [], ◌∷◌, ◌++◌, Option, Some, None, option_map, Result, Ok, Err, IfErr, IfOk, refl, sym, ◌∙◌, ap, subst, inl, inr}
 use Rattle.std.proofs.lemmas.Option.{same_Some}
 use Rattle.run_definition.specs.Run.{Run}
 use Rattle.run_definition.specs.declared.outcome.Outcome.{Outcome}
@@ -151,9 +151,9 @@ translate-leaves input name pages method_bytes meter w due d =
     d.source (imaged meter name method_bytes due) d.done)
 
 -- where all stages of a pipeline ended
-staged : (due : Due) (count : ℕ) (run : ℕ → Run Loaded System) → due ≡ of_stages count run → LeavesAll due
-staged due count run is =
-    accepting due (done.Piped (ended_so (each (λ i. (run i).outcome) count))) (due-answer due (of_stages count run) is) refl
+staged : (due : Due) (line : Pipeline Loaded) (run : ℕ → Run Loaded System) → due ≡ of_stages line run → LeavesAll due
+staged due line run is =
+    accepting due (done.Piped (ended_so (each (λ i. (run i).outcome) line.count))) (due-answer due (of_stages line run) is) refl
 
 pipe-leaves : (stages : List NamedClass) (launch : PipeLaunch) (w : World) (due : Due) → IsDueOfPipe stages launch w due → LeavesAll due
 pipe-leaves stages launch w due d =
@@ -161,7 +161,7 @@ pipe-leaves stages launch w due d =
     (passing (λ sets. due ≡ piped launch stages sets w.input.told d.pieces) (λ sets. LeavesAll due) d.sets
     (λ sets is.
     let p : Pipeline Loaded = pipeline_for launch stages sets w.input.told in
-    staged due (length stages) (run_alone_of p (first_run_over p w.input.told d.pieces)) is) d.done)
+    staged due p (run_alone_of p (first_run_over p w.input.told d.pieces)) is) d.done)
 
 leaves : (c : Command) (moment : ℕ) (w : World) (due : Due) → IsDueOf AreMade c moment w due → LeavesAll due
 leaves (command.Go input name pages method_bytes meter session) moment w due d =
