@@ -2,6 +2,7 @@ mod OneLayout
 mod Making
 pub mod EndedRuns
 mod PairedTranslations
+mod CalledTranslations
 mod StoppedTranslations
 mod LinkedTranslations
 mod TranslatedMethods

@@ -1,3 +1,4 @@
+pub mod Calls
 pub mod Translated
 pub mod WholeCode
 pub mod Linked

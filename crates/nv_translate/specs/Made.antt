@@ -1,11 +1,14 @@
 -- How the classes of a translation are made: they are translated code, divided in one way only, and no interpreter.
 use Rattle.std.specs.Prelude.{◌≡◌, ℕ, List, [], Option, Some, None}
+use Rattle.run_definition.specs.Answer.{next_answer}
 use Rattle.nv_values.specs.Names.{Text}
 use Rattle.elf_definition.specs.Start.{Source}
+use Rattle.unix_definition.specs.Unix.{reply}
 use Rattle.class_definition.specs.Linking.{program_of}
 use Rattle.translate_program.specs.declared.built.Built.{Built}
 use Rattle.translate_program.specs.declared.named_file.NamedFile.{NamedFile}
 use Rattle.translate_program.specs.Translation.{IsTranslationBy}
+use Rattle.nv_translate.specs.Calls.{HoldsAtCalls}
 use Rattle.nv_translate.specs.Counts.{CountsAlike}
 use Rattle.nv_translate.specs.Linked.{IsLinkedBy}
 use Rattle.nv_translate.specs.Metered.{TranslatedMetered}
@@ -27,6 +30,9 @@ pub record MadeBy (meter : Option ℕ) (source : Source) (name : Text) (method_b
 -- A translation, with how it is made.
 pub record Made (source : Source) (name : Text) (method_bytes : ℕ) (built : Built) : Type 0 where
   pub translated : Translated source name built.files.items
+  -- Where its classes call the system, whatever answers, and over the system, fields and arrays hold the program's state but for its registers.
+  pub calls : HoldsAtCalls next_answer source (program_of translated.classes)
+  pub system_calls : HoldsAtCalls reply source (program_of translated.classes)
   pub by : MadeBy None source name method_bytes built
   -- It reads at most as many words of memory as the program makes accesses for which one is read, no character, and enters spans at most once for
   -- each time that the program goes from one to another, and once more. These are sums over whole runs.

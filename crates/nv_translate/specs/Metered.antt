@@ -23,6 +23,7 @@ use Rattle.emit_metered_laws.specs.Metering.{spent}
 use Rattle.emit_metered_laws.specs.Slices.{HoldsByMeter, IsSlice, sliced}
 use Rattle.translate_program.specs.declared.named_file.NamedFile.{NamedFile}
 use Rattle.translate_program.specs.Files.{meter_allow, need}
+use Rattle.nv_translate.specs.Calls.{HoldsAtMeteredCalls}
 use Rattle.nv_translate.specs.Translated.{HoldClasses, classes_run, guest_run}
 
 -- Over every list of answers of the system, in every region that has room for the pages, and in as many instructions as are allowed or more: the
@@ -93,3 +94,6 @@ pub record TranslatedMetered (source : Source) (name : Text) (turns : ℕ) (file
   pub runs : RunsByItsMeter source name turns files
   pub slices : RunsInSlices next_answer source turns (program_of runs.classes)
   pub system_slices : RunsInSlices reply source turns (program_of runs.classes)
+  -- Where they call the system, fields and arrays hold the program's state, and the turns that are left.
+  pub calls : HoldsAtMeteredCalls next_answer source turns (program_of runs.classes)
+  pub system_calls : HoldsAtMeteredCalls reply source turns (program_of runs.classes)

@@ -10,6 +10,7 @@ ghost use Rattle.nv_translate.specs.Made.{Made, MadeMetered};
 ghost use Rattle.nv_translate.specs.Translated.{RunsAlike};
 
 use crate::accepted_translations::{translations_are_accepted, translations_are_sets};
+use crate::called_translations::{metered_translations_hold_at_calls, translations_hold_at_calls};
 use crate::counted_translations::translations_count_alike;
 use crate::ended_translations::runs_end_alike;
 use crate::entered_translations::translations_go_on;
@@ -55,6 +56,7 @@ pub fn images_are_translated(image: &Image)
     runs_end_alike();
     translations_run_again();
     translations_go_on();
+    translations_hold_at_calls();
     translations_count_alike();
     translations_are_warm();
 }
@@ -75,6 +77,7 @@ pub fn metered_images_are_translated(image: &Image)
     metered_translations_have_no_blocks();
     metered_translations_stop();
     metered_translations_run_in_slices();
+    metered_translations_hold_at_calls();
 }
 
 // It does nothing: an image is so by its laws.

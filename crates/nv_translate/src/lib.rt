@@ -3,6 +3,7 @@
 #![tactic(auto)]
 
 pub mod accepted_translations;
+pub mod called_translations;
 pub mod counted_translations;
 pub mod ended_translations;
 pub mod entered_translations;

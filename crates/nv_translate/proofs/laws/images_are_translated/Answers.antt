@@ -26,6 +26,8 @@ returns c name method_bytes built lawful large is =
         again = c.translations_run_again.ensures source linked.classes accepted alike;
         entered = c.translations_go_on.ensures source name method_bytes built image large linked;
       };
+      calls = c.translations_hold_at_calls.ensures.answered source name method_bytes built image large linked;
+      system_calls = c.translations_hold_at_calls.ensures.served source name method_bytes built image large linked;
       by = record {
         is = is;
         linked = linked;

@@ -24,6 +24,8 @@ returns c name method_bytes turns built lawful large few is =
         };
         slices = c.metered_translations_run_in_slices.ensures.answered source name method_bytes turns built image large few linked;
         system_slices = c.metered_translations_run_in_slices.ensures.served source name method_bytes turns built image large few linked;
+        calls = c.metered_translations_hold_at_calls.ensures.answered source name method_bytes turns built image large few linked;
+        system_calls = c.metered_translations_hold_at_calls.ensures.served source name method_bytes turns built image large few linked;
       };
       by = record {
         is = is;
