@@ -1,5 +1,5 @@
 -- The classes of a translation with tables of frames run as the program does.
-use Rattle.std.proofs.Common.{ℕ, List, [], ◌∷◌}
+use Rattle.std.proofs.Common.{List, [], ◌∷◌}
 use Rattle.std.specs.List.{AllZip}
 use Rattle.run_definition.specs.Answer.{next_answer}
 use Rattle.nv_values.specs.Names.{Text}

@@ -7,3 +7,5 @@ pub mod ReadLaws
 pub mod ApartLaws
 pub mod AloneLaws
 pub mod SetLaws
+pub mod RefusingLemmas
+pub mod CountedLemmas

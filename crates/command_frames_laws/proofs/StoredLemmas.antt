@@ -20,6 +20,9 @@ use Rattle.frame_maps.specs.Checked.{AreTyped, Fails, IsCheckRefusal, IsTyped}
 use Rattle.frame_maps.specs.Framed.{Framed}
 use Rattle.frame_maps.specs.declared.frame_error.FrameError.{FrameError}
 use Rattle.frame_maps.specs.declared.frame_error.FrameError.TheVariants.{Refused, TooLarge, NoMemory}
+use Rattle.class_names.specs.Kept.{IsClass}
+use Rattle.stackmap_laws.proofs.ClassLaws.{AllFit}
+use Rattle.stackmap_laws.specs.Framed.{AreFramed}
 use Rattle.stackmap_laws.proofs.FramedLaws.{are-typed, fit-of-all, framed-links, get-of, place-from}
 use Rattle.stackmap_maker.specs.Refusals.{AreWithTables, class_without_tables, tables_of}
 use Rattle.class_sets.specs.ClassSets.{names_asked}
@@ -40,7 +43,7 @@ use Rattle.command_deeds.specs.Deeds.{Deed}
 use Rattle.command_deeds.specs.Ends.{CommandAnswer}
 use Rattle.command_deeds.specs.declared.done.Done.TheVariants.{LinkRefused}
 use Rattle.command_guest.specs.Classes.{IsTypeChecked}
-use Rattle.command_frames.specs.Check.{IsCheckedLoaded, IsFrameChecked, IsTableChecked}
+use Rattle.command_frames.specs.Check.{IsCheckedFrom, IsCheckedLoaded, IsFrameChecked, IsTableChecked}
 use Rattle.command_frames.specs.Frames.{AreFilesOf, AreFilesOfSet, AreWrittenTo, IsFramedTo, all_stored}
 use Rattle.command_frames_laws.specs.Stored.{HasOwnNames, HaveStored, IsStoredIn, Leave, Passes}
 use Rattle.command_frames.specs.Told.{IsTold}
@@ -79,14 +82,21 @@ members-pass : (class : NamedClass) (m : Members) (fault : Option LinkFault) →
 members-pass class m None none typed check h = only-passed m.classes m.tables check typed h
 members-pass class m (Some fault) none typed check h = absurd (none-some fault (sym none))
 
-pub set-passes : (class : NamedClass) (files : Files) (m : Members) → named_set V51 files class.name ≡ Classes m → link_fault m.classes ≡ None → AreTyped m.classes m.tables → Passes class files
+-- the set of a class passes with these classes, and there is no other result
+pub record PassesWith (class : NamedClass) (files : Files) (classes : List Class) : Type 0 where
+  pub passed : IsCheckedFrom class files (Ok classes)
+  pub only : (check : Check (List Class)) → IsCheckedFrom class files check → check ≡ Ok classes
+
+set-passes : (class : NamedClass) (files : Files) (m : Members) → named_set V51 files class.name ≡ Classes m → link_fault m.classes ≡ None → AreTyped m.classes m.tables → PassesWith class files m.classes
 set-passes class files m is linked typed = record {
-  classes = m.classes;
   passed = subst (λ set. IsCheckedLoaded class set (Ok m.classes)) (sym is)
       (subst (λ fault. Behind (unless_fault fault LinkRefused m) IsTableChecked (Ok m.classes)) (sym linked) (refl, typed));
   only = λ check h.
       members-pass class m (link_fault m.classes) linked typed check (subst (λ set. IsCheckedLoaded class set check) is h);
 }
+
+some-passes : (class : NamedClass) (files : Files) (classes : List Class) → PassesWith class files classes → Passes class files
+some-passes class files classes p = record { classes = classes; passed = p.passed; only = p.only }
 
 -- ---- what was stored
 
@@ -134,7 +144,7 @@ pub record IsOfMembers (set : NamedSet) (deeds : List Deed) : Type 0 where
   pub is : set ≡ Classes members
   pub stored : IsStoredSet members deeds
 
-of-members : (class : NamedClass) (set : NamedSet) (deeds : List Deed) → AreFilesOfSet class set (Ok deeds) → IsOfMembers set deeds
+pub of-members : (class : NamedClass) (set : NamedSet) (deeds : List Deed) → AreFilesOfSet class set (Ok deeds) → IsOfMembers set deeds
 of-members class NoFile deeds h = absurd (refused-frames [] _ h.classes h.framed deeds h.accepted h.framed_is h.written)
 of-members class (Faulty number fault) deeds h = absurd (refused-frames [] _ h.classes h.framed deeds h.accepted h.framed_is h.written)
 of-members class (Classes m) deeds h = record {
@@ -176,39 +186,56 @@ module _ (class : NamedClass) (files later : Files) (deeds : List Deed) (bytes :
       files-held later o.members.names o.stored.stored as-many
       (recursion_from_All (IsStoredIn later) (all_stored o.members.names o.stored.stored) (subst (All (IsStoredIn later)) o.stored.are h))
 
-  passes : AreStored files o.members o.stored.stored later → Passes class later
-  passes s =
-      let kept = classes-kept V48 o.members (members-kept V48 files class.name o.members bytes o.is) in
-      let fit = fit-of-all o.members.classes kept in
+  kept : All IsClass o.members.classes
+  kept = classes-kept V48 o.members (members-kept V48 files class.name o.members bytes o.is)
+
+  pub fit : AllFit o.members.classes
+  fit = fit-of-all o.members.classes kept
+
+  -- the classes with tables
+  abbrev pub with-tables : List Class
+  with-tables = map class_without_tables o.stored.framed
+
+  pub are-framed : AreFramed o.members.classes with-tables
+  are-framed = o.stored.with_tables.are
+
+  pub passes-with : AreStored files o.members o.stored.stored later → PassesWith class later with-tables
+  passes-with s =
       let framed = o.stored.framed in
-      let are = o.stored.with_tables.are in
       set-passes class later (framed_members o.members.names framed)
-      (stored-loaded files later class.name o.members framed o.stored.stored o.is kept are o.stored.spelled s)
-      (framed-links o.members.classes (map class_without_tables framed) fit are o.stored.linked)
-      (are-typed o.members.classes (map class_without_tables framed) fit are (map tables_of framed) o.stored.with_tables.tabled)
+      (stored-loaded files later class.name o.members framed o.stored.stored o.is kept are-framed o.stored.spelled s)
+      (framed-links o.members.classes with-tables fit are-framed o.stored.linked)
+      (are-typed o.members.classes with-tables fit are-framed (map tables_of framed) o.stored.with_tables.tabled)
 
-  left : Leave files deeds later → Passes class later
-  left leave =
-      passes (set-stored V48 files later class.name o.members o.stored.stored o.is
-      (files-set files later o.members.names o.stored.stored as-many (subst (λ ds. Leave files ds later) o.stored.are leave)))
+  pub left-stored : Leave files deeds later → AreStored files o.members o.stored.stored later
+  left-stored leave =
+      set-stored V48 files later class.name o.members o.stored.stored o.is
+      (files-set files later o.members.names o.stored.stored as-many (subst (λ ds. Leave files ds later) o.stored.are leave))
 
-  have : HaveStored files deeds later → Passes class later
-  have h =
+  pub have-stored : HaveStored files deeds later → AreStored files o.members o.stored.stored later
+  have-stored h =
       let asked = flat_map names_asked o.members.classes in
-      passes (record {
+      record {
         held = held h.stored;
         others = λ k name less. h.others (slice_index_or asked k name);
-      })
+      }
+
+  passes : AreStored files o.members o.stored.stored later → Passes class later
+  passes s = some-passes class later with-tables (passes-with s)
 
   alone : HasOwnNames (named_set V48 files class.name) → All (IsStoredIn later) deeds → Passes class later
   alone own stored =
       passes (stored-alone V48 files later class.name o.members o.stored.stored o.is o.stored.linked (subst HasOwnNames o.is own) (held stored))
 
 pub left-passes : (class : NamedClass) (files later : Files) (deeds : List Deed) → HoldBytes files → AreFilesOf class files (Ok deeds) → Leave files deeds later → Passes class later
-left-passes class files later deeds bytes h leave = left class files later deeds bytes (of-members class (named_set V48 files class.name) deeds h) leave
+left-passes class files later deeds bytes h leave =
+    let o = of-members class (named_set V48 files class.name) deeds h in
+    passes class files later deeds bytes o (left-stored class files later deeds bytes o leave)
 
 pub later-passes : (class : NamedClass) (files later : Files) (deeds : List Deed) → HoldBytes files → AreFilesOf class files (Ok deeds) → HaveStored files deeds later → Passes class later
-later-passes class files later deeds bytes h stored = have class files later deeds bytes (of-members class (named_set V48 files class.name) deeds h) stored
+later-passes class files later deeds bytes h stored =
+    let o = of-members class (named_set V48 files class.name) deeds h in
+    passes class files later deeds bytes o (have-stored class files later deeds bytes o stored)
 
 pub alone-passes : (class : NamedClass) (files later : Files) (deeds : List Deed) → HoldBytes files → AreFilesOf class files (Ok deeds) → HasOwnNames (named_set V48 files class.name) → All (IsStoredIn later) deeds → Passes class later
 alone-passes class files later deeds bytes h own stored = alone class files later deeds bytes (of-members class (named_set V48 files class.name) deeds h) own stored

@@ -1,3 +1,4 @@
 pub mod Stored
 pub mod Alike
 pub mod StoredSets
+pub mod Counted

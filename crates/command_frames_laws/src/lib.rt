@@ -5,7 +5,7 @@ mod laws;
 mod stored_set_laws;
 mod translation_laws;
 
-pub use laws::stored_sets_are_checked;
+pub use laws::{stored_sets_are_checked, stored_sets_are_counted};
 pub use stored_set_laws::{
     linked_sets_stand_alone, read_sets_keep_the_rules, set_files_are_stored, stored_sets_are_loaded,
 };
