@@ -9,3 +9,4 @@ pub mod AloneLaws
 pub mod SetLaws
 pub mod RefusingLemmas
 pub mod CountedLemmas
+pub mod LeftLemmas
