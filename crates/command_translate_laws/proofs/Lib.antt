@@ -1,0 +1,3 @@
+pub mod NamedRunLemmas
+pub mod StandLemmas
+pub mod TranslatedLemmas
