@@ -1,7 +1,6 @@
 -- That `go` is complete.
-use Rattle.std.proofs.Common.{◌≡◌, ◌≢◌, ◌⊎◌, ◌<◌, ◌≤◌, ◌+◌, ◌-◌, ◌^◌, ℕ, Bool, true, false, List, [], Option, Some, None, option_map, Result, Ok, Err, IfErr, IfOk, min, refl, sym, ◌∙◌, ap, subst, inl, inr, arith}
+use Rattle.std.proofs.Common.{◌≡◌, ◌≢◌, ◌⊎◌, ℕ, List, [], Option, Some, None, option_map, Ok, IfOk, refl, sym, ◌∙◌, ap, subst, inl, inr}
 use Rattle.std.proofs.lemmas.Option.{same_Some}
-use Rattle.nv_outside.specs.Faults.{CountsFailure, one_more}
 use Rattle.nv_outside.specs.Files.{AgreeWith, Files}
 use Rattle.run_definition.specs.Run.{Run}
 use Rattle.mips_definition.specs.State.{State}
@@ -9,6 +8,7 @@ use Rattle.run_definition.specs.declared.outcome.Outcome.{Outcome}
 use Rattle.run_definition.specs.declared.outcome.Outcome.TheVariants.{Exited, Faulted, Trapped, Waiting, Going}
 use Rattle.nv_values.specs.Names.{Text}
 use Rattle.nv_translate.specs.Made.{AreMade}
+use Rattle.command_words.specs.declared.command.Command.TheVariants as command
 use Rattle.command_words.specs.declared.named.Named.{Named}
 use Rattle.command_words.specs.declared.pages.Pages.{Pages}
 use Rattle.elf_definition.specs.Area.{area}
@@ -20,22 +20,18 @@ use Rattle.jvm_definition.specs.Step.{Loaded}
 use Rattle.unix_definition.specs.System.{System}
 use Rattle.nv_translate.specs.Translated.{EndsAs}
 use Rattle.command_deeds.specs.Checks.{Behind, Check, after_check, file_that_is_named, there, unless_fault}
-use Rattle.command_deeds.specs.Ends.{CommandAnswer, Comes, Due, done_of_stop, final, is_stop, says}
-use Rattle.command_deeds.specs.Line.{answer_line}
+use Rattle.command_deeds.specs.Ends.{CommandAnswer, Due, says}
 use Rattle.command_deeds.specs.Runs.{GivenFile, Plan, answer_of, found_for}
-use Rattle.command_deeds.specs.World.{Seen, World}
+use Rattle.command_deeds.specs.World.{World}
 use Rattle.command_deeds.specs.declared.done.Done.{Done}
 use Rattle.command_deeds.specs.declared.done.Done.TheVariants as done
-use Rattle.command_deeds.specs.declared.stop.Stop.{Stop}
-use Rattle.command_deeds.specs.declared.stop.Stop.TheVariants.{ReadFault, WriteFault, ShelfFault, NoMemory}
 use Rattle.command_guest.specs.Imaging.{IsImageChecked, IsImaged, elf_checked, source_of}
 use Rattle.command_translate.specs.Go.{IsDueOfGo, IsDueOfTranslated, IsDueOfTranslatedBy, allowed}
 use Rattle.command_translate.specs.Metered.{IsDueOfMetered}
 use Rattle.command_translate.specs.Stores.{classes_for, program_for}
 use Rattle.nested_cli.specs.Commands.{Does, plan}
-use Rattle.nested_cli.specs.Faults.{ErrFailed, Failed, OutFailed}
-use Rattle.nested_cli.specs.Laws.{AnswersAs, AnswersFor, GoIsComplete, GoesAhead, NoCountRose, Sound}
-use Rattle.nested_cli.proofs.CheckLemmas.{not-told}
+use Rattle.nested_cli.specs.Laws.{AnswersAs, AnswersFor, GoIsComplete, GoesAhead, NoCountRose}
+use Rattle.nested_cli.proofs.AnsweredLemmas.{Answered, answered}
 
 -- ---- the checks pass
 
@@ -129,25 +125,6 @@ work-answers words moment w g due answer d is =
     subst (λ (c : Check (List GivenFile)). IfOk c (λ given. IsDueOfTranslatedBy AreMade g.meter p g.method_bytes source given w.input.told due)) found behind in
     answers-by words moment w g g.meter due answer (subst (λ told. IsDueOfTranslatedBy AreMade g.meter p g.method_bytes source g.given told due) g.bytes_told t) is
 
--- ---- no call failed
-
-counts-none : (a b : ℕ) {A : Type 0} → b ≡ a → a < 2 ^ 64 - 1 → b ≡ one_more a → A
-counts-none a b same low rose =
-    let no : ⊥ = omega (arith, same, low, rose) in
-    absurd no
-
-rose-none : {B : Type 0} (old new : Seen B) {A : Type 0} → Sound old new → CountsFailure true old.faults new.faults → A
-rose-none old new sound count = counts-none old.faults new.faults sound.0 sound.1 (count.rises refl)
-
-err-rose : (w v : World) {A : Type 0} → NoCountRose w v → ErrFailed w v → A
-err-rose w v none (inl failed) = rose-none w.err v.err none.err failed.err_count
-err-rose w v none (inr (inl failed)) = rose-none w.err v.err none.err failed.err_count
-err-rose w v none (inr (inr failed)) = rose-none w.err v.err none.err failed.err_count
-
-write-rose : (w v : World) {A : Type 0} → NoCountRose w v → OutFailed w v ⊎ ErrFailed w v → A
-write-rose w v none (inl failed) = rose-none w.out v.out none.out failed.out_count
-write-rose w v none (inr failed) = err-rose w v none failed
-
 -- ---- the whole call
 
 abbrev Completes : {words : List Text} {moment : ℕ} {w : World} → GoesAhead words moment w → Done → Type 0
@@ -155,24 +132,11 @@ Completes g said = (said ≡ done.NoMemory) ⊎ AnswersFor g g.meter said
 
 go-completes : (words : List Text) (moment : ℕ) (w v : World) (said : Done) (g : GoesAhead words moment w) → Does AreMade words moment w v said
     → NoCountRose w v → Completes g said
-go-completes words moment w v said g does none = by does.end refl (does.due _ g.means)
+go-completes words moment w v said g does none = by (answered words moment w v said _ g.means does none)
   where
-    is : said ≡ (final does.end).done
-    is = not-told (answer_line (final does.end).name (final does.end).done) does.worked.err v.err (final does.end).done said
-        (λ e. write-rose w v none (does.faults.write e)) does.line.3
-
-    stopped : (stop : Stop) → said ≡ done_of_stop stop → Completes g said
-    stopped ReadFault e = rose-none w.input v.input none.input (does.faults.read e).input_count
-    stopped WriteFault e = write-rose w v none (does.faults.write e)
-    stopped ShelfFault e = rose-none w.shelf v.shelf none.shelf (does.faults.shelf e).shelf_count
-    stopped NoMemory e = inl e
-
-    by : (end : Result CommandAnswer Stop) → does.end ≡ end
-        → Comes true (λ u due. IsDueOfGo AreMade g.input g.pages g.method_bytes g.meter (plan g.name g.session moment) u due) w does.worked end → Completes g said
-    by (Err stop) e comes = stopped stop (is ∙ ap (λ x. (final x).done) e)
-    by (Ok answer) e (inl early) = absurd early
-    by (Ok answer) e (inr work) = inr (subst (AnswersFor g g.meter) (sym (is ∙ ap (λ x. (final x).done) e))
-        (work-answers words moment w g work.0 answer work.1 work.2.0))
+    by : (said ≡ done.NoMemory) ⊎ Answered (command.Go g.input g.name g.pages g.method_bytes g.meter g.session) moment w v said → Completes g said
+    by (inl stop) = inl stop
+    by (inr so) = inr (subst (AnswersFor g g.meter) (sym so.said_is) (work-answers words moment w g so.due so.answer so.is_due so.answer_is))
 
 pub completes : GoIsComplete
 completes words moment w v said g does none = go-completes words moment w v said g does none

@@ -1,6 +1,9 @@
 pub mod FaultLemmas
 pub mod AnswerLemmas
 pub mod CheckLemmas
+pub mod AnsweredLemmas
 pub mod RefusalLemmas
 pub mod MemoryLemmas
 pub mod CompletingLemmas
+pub mod FramedLemmas
+pub mod TranslatedLemmas

@@ -3,3 +3,4 @@ pub mod Faults
 pub mod Line
 pub mod Commands
 pub mod Laws
+pub mod ByName

@@ -5,5 +5,8 @@ mod laws;
 mod program;
 
 pub use command_deeds::{Done, status};
-pub use laws::{go_is_complete, refusals_leave_all, runs_take_no_memory};
+pub use laws::{
+    frames_are_checked, go_is_complete, refusals_leave_all, runs_take_no_memory,
+    translations_run_by_name,
+};
 pub use program::nested;
